@@ -1,0 +1,3 @@
+-- General laws that every crate cites.
+pub mod Cases
+pub mod Lists

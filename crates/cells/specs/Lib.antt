@@ -1,0 +1,2 @@
+-- The words in which the other crates' statements are put.
+pub mod Lists

@@ -1,0 +1,10 @@
+-- The words in which the promises are put.
+pub mod Kept
+pub mod Handed
+pub mod Demand3
+pub mod Rounds
+pub mod Refusals
+pub mod Handles
+pub mod Tickets
+pub mod Fires
+pub mod Bounds
