@@ -1,3 +1,23 @@
--- General laws that every crate cites.
+-- General laws that every crate cites, and the cell store's.
 pub mod Cases
 pub mod Lists
+pub mod Sums
+pub mod Below
+pub mod Chains
+pub mod Memory
+pub mod Places
+pub mod Rows
+pub mod Known
+pub mod Fresh
+pub mod Claims
+pub mod Sorting
+pub mod Merging
+pub mod Halves
+pub mod CellOrder
+pub mod CellSort
+pub mod Stacks
+pub mod StackTable
+pub mod Steps
+pub mod Rules
+pub mod Distinct
+pub mod Audits

@@ -24,3 +24,8 @@ Rising a (x ∷ xs) = (a ≤ x) × Rising (suc x) xs
 unfoldable pub sumOf : {A : Type 0} → (A → ℕ) → List A → ℕ
 sumOf f [] = zero
 sumOf f (x ∷ xs) = f x + sumOf f xs
+
+-- The sum of a number of each number below n.
+unfoldable pub sumBelow : (ℕ → ℕ) → ℕ → ℕ
+sumBelow f zero = zero
+sumBelow f (suc n) = sumBelow f n + f n

@@ -7,6 +7,7 @@ use mathlib.Core.Option.{Option, none, some}
 use mathlib.Core.Path.{_≡_}
 use lib.Dec.{leb, ltb, eqb}
 use Rattle.cells.specs.Lists.{All}
+use Rattle.cells.specs.Store.{wrongSize}
 use Rattle.places.specs.Ticks.{lastTick}
 use Rattle.meaning.specs.Entries.{Entry, named}
 use Rattle.meaning.specs.Plain.{Plain}
@@ -34,7 +35,7 @@ isNone (some x) = false
 
 -- 1: "set-up: N is 0 or above 4,096"
 unfoldable pub badSize : ℕ → Cause
-badSize n = record { number = 1; applies = eqb n 0 || ltb 4096 n }
+badSize n = record { number = 1; applies = wrongSize n }
 
 -- 2: "queue set-up: arity not 2 to 8"
 unfoldable pub badArity : ℕ → Cause

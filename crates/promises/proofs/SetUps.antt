@@ -8,6 +8,7 @@ use native.Mathlib.Omega.{arith}
 use lib.Dec.{eqb, ltb}
 use borrow.Author.Tests.{ltb-false, eq-eqb}
 use Rattle.cells.specs.Lists.{All}
+use Rattle.cells.specs.Store.{wrongSize}
 use Rattle.cells.proofs.Cases.{same?, clash, or-false}
 use Rattle.places.specs.Ticks.{lastTick}
 use Rattle.meaning.specs.Plain.{Plain, fresh}
@@ -52,11 +53,11 @@ wheel-setUp-keeps b n cells t s e = begun-keeps (badSize cells ∷ beyond b n t 
 
 -- N is in its range where the set-up is not refused for it.
 size-some : (n : ℕ) → badSize n .applies ≡ false → 1 ≤ n
-unfolding badSize
+unfolding badSize wrongSize
 size-some n e = same? n 0 (λ q. clash (eq-eqb n 0 q) (or-false (eqb n 0) (ltb 4096 n) e .0)) (λ d. omega arith)
 
 size-most : (n : ℕ) → badSize n .applies ≡ false → n ≤ 4096
-unfolding badSize
+unfolding badSize wrongSize
 size-most n e = ltb-false 4096 n (or-false (eqb n 0) (ltb 4096 n) e .1)
 
 -- An accepted set-up's list, whichever other cause was asked.

@@ -1,0 +1,171 @@
+-- The free stack: its test passes exactly if its rule holds.
+-- Assumes nothing.
+use Prim.Native.Nat.{ℕ, zero, suc, _+_, _-_, _≤_, _<_}
+use native.Mathlib.Numerals.{add-one}
+use native.Mathlib.Omega.{arith}
+use mathlib.Core.Bool.{true, false, cond, _&&_}
+use mathlib.Core.List.{List, [], _∷_}
+use mathlib.Core.Logic.{_↔_}
+use mathlib.Core.Path.{_≡_, refl, sym, _∙_}
+use lib.Dec.{leb, ltb, eqb}
+use lib.ListN.{length}
+use borrow.Author.Tests.{ltb-true, leb-true, eqb-true, lt-ltb, le-ltb, le-leb, lt-leb, eq-eqb}
+use Rattle.cells.proofs.Cases.{test, clash, atMost?, and-true}
+use Rattle.cells.proofs.Chains.{AreCells, follow, length-follow, chain-same, chain-once}
+use Rattle.cells.proofs.Lists.{all-map}
+use Rattle.cells.proofs.Sums.{sumBelow-same, sumBelow-pinned, length-times, times-none, all-standing}
+use Rattle.cells.specs.Lists.{All, times, sumBelow}
+use Rattle.cells.specs.Stack.{noCell, Chain, isFree, link, frees, stands, walks, StackRule, stackTest}
+
+-- A cell that may stand in the stack is below n, and free.
+pub stands-true : (w : List ℕ) (n c : ℕ) → stands w n c ≡ true → (c < n) × (isFree w c ≡ true)
+unfolding stands
+stands-true w n c e = let both = and-true (ltb c n) (isFree w c) e in (ltb-true c n (both .0), both .1)
+
+module _ (w : List ℕ) (n : ℕ) where
+  -- Each is one of the first n cells, and free.
+  abbrev AllStand : List ℕ → Type 0
+  AllStand cs = All (λ (c : ℕ). stands w n c ≡ true) cs
+
+  -- A walk that passes is a list of linked cells, each free and below n.
+  walks-linked : (c k : ℕ) → walks w n c k ≡ true → Chain (link w) c (follow (link w) c k)
+  unfolding walks follow
+  walks-linked c zero e = eqb-true c noCell e
+  walks-linked c (suc k) e = (refl, walks-linked (link w c) k (and-true (stands w n c) (walks w n (link w c) k) e .1))
+
+  walks-stand : (c k : ℕ) → walks w n c k ≡ true → AllStand (follow (link w) c k)
+  unfolding walks follow
+  walks-stand c zero e = tt
+  walks-stand c (suc k) e =
+      let both = and-true (stands w n c) (walks w n (link w c) k) e in (both .0, walks-stand (link w c) k (both .1))
+
+  -- And the other way round.
+  chain-walks : (a : ℕ) (cs : List ℕ) → Chain (link w) a cs → AllStand cs → walks w n a (length cs) ≡ true
+  unfolding walks
+  chain-walks a [] h p = eq-eqb a noCell h
+  chain-walks a (c ∷ cs) h p = rw (h .0, p .0) (chain-walks (link w c) cs (h .1) (p .1))
+
+  -- As many free cells below n as there are, linked up to no cell, are all of them, once each.
+  module _ (small : n ≤ noCell) (cs : List ℕ) (p : AllStand cs) where
+    below : All (λ (c : ℕ). c < n) cs
+    below = all-map (λ c e. stands-true w n c e .0) cs p
+
+    areCells : AreCells cs
+    areCells = all-map (λ c h. omega arith) cs below
+
+    -- A cell stands at most as often as it is to stand.
+    atMostFree : (top c : ℕ) → Chain (link w) top cs → times c cs ≤ cond (isFree w c) 1 0
+    atMostFree top c h =
+        test (isFree w c)
+        (λ e. rw e (chain-once (link w) c top cs h areCells))
+        (λ e. rw e (omega (arith, times-none c cs (all-map (λ x s q. clash (stands-true w n x s .1) (rw q e)) cs p))))
+
+    all-once : (top : ℕ) → Chain (link w) top cs → length cs ≡ frees w n → (c : ℕ) → times c cs ≡ cond (ltb c n && isFree w c) 1 0
+    unfolding frees
+    all-once top h l c =
+        atMost? n c
+        (λ k. rw (le-ltb c n k) (times-none c cs (all-map (λ x b q. omega arith) cs below)))
+        (λ k. rw (lt-ltb c n k) (
+        sumBelow-pinned (λ (x : ℕ). times x cs) (λ (x : ℕ). cond (isFree w x) 1 0) n (λ x b. atMostFree top x h) (
+        omega (arith, length-times n cs below)) c k))
+
+module _ {w : List ℕ} {n top : ℕ} where
+  -- The test finds the stack that the rule asks for.
+  pub stackTest-sound : stackTest w n top ≡ true → StackRule w n top
+  unfolding stackTest
+  stackTest-sound e =
+      record {
+        cells = cells;
+        linked = linked;
+        once = all-once w n (leb-true n noCell (both .0)) cells stand top linked (length-follow (link w) top (frees w n));
+      }
+    where
+      both : (leb n noCell ≡ true) × (walks w n top (frees w n) ≡ true)
+      both = and-true (leb n noCell) (walks w n top (frees w n)) e
+
+      cells : List ℕ
+      cells = follow (link w) top (frees w n)
+
+      linked : Chain (link w) top cells
+      linked = walks-linked w n top (frees w n) (both .1)
+
+      stand : AllStand w n cells
+      stand = walks-stand w n top (frees w n) (both .1)
+
+  -- Each cell of a stack that keeps the rule is free and below n.
+  pub rule-stands : (r : StackRule w n top) → All (λ (c : ℕ). stands w n c ≡ true) (r .cells)
+  unfolding stands
+  rule-stands r =
+      all-standing (λ (c : ℕ). stands w n c ≡ true) (r .cells) (λ c k. test (stands w n c) (λ e. e) (λ e. absurd (omega (arith, rw e at (r .once c)))))
+
+  pub rule-below : (r : StackRule w n top) → All (λ (c : ℕ). c < n) (r .cells)
+  rule-below r = all-map (λ c e. stands-true w n c e .0) (r .cells) (rule-stands r)
+
+  -- It is as long as there are free cells.
+  pub rule-length : (r : StackRule w n top) → length (r .cells) ≡ frees w n
+  unfolding frees
+  rule-length r =
+      sym (length-times n (r .cells) (rule-below r))
+      ∙ sumBelow-same (λ (c : ℕ). times c (r .cells)) (λ (c : ℕ). cond (isFree w c) 1 0) n (λ c k. rw lt-ltb at (r .once c))
+
+  -- The test passes wherever the rule holds.
+  pub stackTest-found : n ≤ noCell → StackRule w n top → stackTest w n top ≡ true
+  unfolding stackTest
+  stackTest-found h r = rw (le-leb n noCell h, ← rule-length r) (chain-walks w n top (r .cells) (r .linked) (rule-stands r))
+
+  -- The rule leaves no choice of the stack.
+  pub rule-same : n ≤ noCell → (r s : StackRule w n top) → r .cells ≡ s .cells
+  rule-same h r s =
+      chain-same (link w) top (r .cells) (s .cells) (r .linked) (s .linked)
+      (all-map (λ c k. omega arith) (r .cells) (rule-below r))
+      (all-map (λ c k. omega arith) (s .cells) (rule-below s))
+
+-- The test passes exactly if the rule holds.
+pub stackTest-exactly : (w : List ℕ) (n top : ℕ) → n ≤ noCell → (stackTest w n top ≡ true) ↔ StackRule w n top
+stackTest-exactly w n top h = (stackTest-sound, stackTest-found h)
+
+-- The steps of the code: one cell is tested, one cell more is counted, one link more is followed.
+pub stands-below : (w : List ℕ) (n c : ℕ) → c < n → stands w n c ≡ isFree w c
+unfolding stands
+stands-below w n c h = rw (lt-ltb c n h)
+
+pub stands-past : (w : List ℕ) (n c : ℕ) → n ≤ c → stands w n c ≡ false
+unfolding stands
+stands-past w n c h = rw (le-ltb c n h)
+
+pub counts-free : (w : List ℕ) (c count : ℕ) → count ≡ frees w c → isFree w c ≡ true → count + 1 ≡ frees w (c + 1)
+unfolding frees sumBelow
+counts-free w c count h e = rw (h, add-one c, e)
+
+pub counts-used : (w : List ℕ) (c count : ℕ) → count ≡ frees w c → isFree w c ≡ false → count ≡ frees w (c + 1)
+unfolding frees sumBelow
+counts-used w c count h e = rw (h, add-one c, e) (omega arith)
+
+pub frees-most : (w : List ℕ) (n : ℕ) → frees w n ≤ n
+unfolding frees sumBelow
+frees-most w zero = omega arith
+frees-most w (suc n) = test (isFree w n) (λ e. rw e (omega (arith, frees-most w n))) (λ e. rw e (omega (arith, frees-most w n)))
+
+module _ (w : List ℕ) (n c : ℕ) where
+  pub walks-on : (k : ℕ) → 0 < k → stands w n c ≡ true → walks w n c k ≡ walks w n (link w c) (k - 1)
+  unfolding walks
+  walks-on zero h e = absurd (omega arith)
+  walks-on (suc k) h e = let one : suc k - 1 ≡ k = omega arith in rw (e, one)
+
+  pub walks-end : (k : ℕ) → k ≤ 0 → walks w n c k ≡ eqb c noCell
+  unfolding walks
+  walks-end zero h = refl
+  walks-end (suc k) h = absurd (omega arith)
+
+  pub walks-stuck : (k : ℕ) → 0 < k → stands w n c ≡ false → walks w n c k ≡ false
+  unfolding walks
+  walks-stuck zero h e = absurd (omega arith)
+  walks-stuck (suc k) h e = rw e
+
+pub stackTest-few : (w : List ℕ) (n top : ℕ) → n ≤ noCell → stackTest w n top ≡ walks w n top (frees w n)
+unfolding stackTest
+stackTest-few w n top h = rw (le-leb n noCell h)
+
+pub stackTest-many : (w : List ℕ) (n top : ℕ) → noCell < n → stackTest w n top ≡ false
+unfolding stackTest
+stackTest-many w n top h = rw (lt-leb n noCell h)
