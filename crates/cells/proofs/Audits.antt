@@ -13,7 +13,8 @@ use borrow.Author.Tests.{eq-eqb, eqb-true, leb-true, le-leb, lt-ltb, ltb-true}
 use Rattle.cells.specs.Lists.{times}
 use Rattle.cells.specs.Words.{word}
 use Rattle.cells.specs.Sorted.{sortBy, cellLeq, sortedList, neighboursDiffer}
-use Rattle.cells.specs.Rules.{allBelow, inUse, cellTest, differTest, usedBelow, sizeTest, Differ, Sound}
+use Rattle.cells.specs.Rules.{inUse, Differ, Sound}
+use Rattle.cells.specs.AuditTests.{allBelow, cellTest, differTest, usedBelow, sizeTest}
 use Rattle.cells.specs.Stack.{stackTest}
 use Rattle.cells.specs.declared.store.Store.{Store}
 use Rattle.cells.proofs.Cases.{test, clash, and-true}

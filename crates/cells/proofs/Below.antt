@@ -6,7 +6,7 @@ use native.Mathlib.Numerals.{add-one}
 use mathlib.Core.Bool.{Bool, true, false, _&&_}
 use mathlib.Core.Path.{_≡_, refl, sym, ap, _∙_}
 use Rattle.cells.proofs.Cases.{same?, clash, and-true, and-false}
-use Rattle.cells.specs.Rules.{allBelow}
+use Rattle.cells.specs.AuditTests.{allBelow}
 
 module _ (p : ℕ → Bool) where
   -- One more number that passes.

@@ -13,17 +13,8 @@ use Rattle.cells.proofs.Below.{below-each, each-below}
 use Rattle.cells.proofs.Lists.{times-here, times-past, times-append}
 use Rattle.cells.specs.Lists.{times}
 use Rattle.cells.specs.Words.{word}
-use Rattle.cells.specs.Rules.{
-  allBelow,
-  inUse,
-  inMask,
-  fieldTest,
-  blankTest,
-  numberedTest,
-  cellTest,
-  usedBelow,
-  CellRule,
-}
+use Rattle.cells.specs.Rules.{inUse, inMask, CellRule}
+use Rattle.cells.specs.AuditTests.{allBelow, fieldTest, blankTest, numberedTest, cellTest, usedBelow}
 
 module _ (w : List ℕ) where
   -- The fields of a mask are zero.

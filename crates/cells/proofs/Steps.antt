@@ -15,7 +15,8 @@ use Rattle.cells.proofs.Cases.{and-false}
 use Rattle.cells.proofs.Below.{below-step, below-fails}
 use Rattle.cells.specs.declared.store.Store.{Store}
 use Rattle.cells.specs.Words.{word}
-use Rattle.cells.specs.Rules.{allBelow, inUse, inMask, fieldTest, blankTest, numberedTest, cellTest, usedBelow, sizeTest}
+use Rattle.cells.specs.Rules.{inUse, inMask}
+use Rattle.cells.specs.AuditTests.{allBelow, fieldTest, blankTest, numberedTest, cellTest, usedBelow, sizeTest}
 
 module _ (w : List ℕ) where
   pub numbered-yes : (counter c t o : ℕ) → t ≡ word w c 0 → o ≡ word w c 1 → t ≤ o → ltb o counter ≡ numberedTest w counter c

@@ -5,3 +5,4 @@ pub mod Store
 pub mod Sorted
 pub mod Stack
 pub mod Rules
+pub mod AuditTests

@@ -13,7 +13,8 @@ ghost use mathlib.Core.Path.{_≡_};
 ghost use lib.Dec.{eqb};
 ghost use lib.ListN.{length, drop, set};
 ghost use Rattle.cells.specs.Words.{word};
-ghost use Rattle.cells.specs.Rules.{allBelow, inUse, blankTest, numberedTest, cellTest, usedBelow, sizeTest, differTest, Sound};
+ghost use Rattle.cells.specs.Rules.{inUse, Sound};
+ghost use Rattle.cells.specs.AuditTests.{allBelow, blankTest, numberedTest, cellTest, usedBelow, sizeTest, differTest};
 ghost use Rattle.cells.specs.Sorted.{sortBy, cellLeq, neighboursDiffer};
 
 // Whether field f is not in the mask, whose digit f is the lowest of `rest`, or zero in cell c.

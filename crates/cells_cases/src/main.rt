@@ -73,6 +73,26 @@ fn tail(name: &[u8]) {
     say(name, audit(&w, s, USED, FREE));
 }
 
+// A store of its own in lent words that hold anything.
+fn fresh(name: &[u8], w: &mut [u64]) {
+    match set_up(w) {
+        SetUp::Refused(_) => {
+            io::write_all(1, name);
+            io::write_all(1, b": refused 1\n");
+        }
+        SetUp::Ready(s) => say(name, audit(w, s, USED, FREE)),
+    }
+}
+
+fn sizes() {
+    let mut none = [5u64; 7];
+    fresh(b"set-up in 7 words", &mut none);
+    let mut one = [5u64; 8];
+    fresh(b"set-up in 8 words", &mut one);
+    let mut nine = [5u64; 79];
+    fresh(b"set-up in 79 words", &mut nine);
+}
+
 fn sound() {
     word(b"as calls left it", 0, 0, 1);
     word(b"any load", 0, 3, 18446744073709551615);
@@ -116,6 +136,7 @@ fn strays() {
 }
 
 fn main() {
+    sizes();
     sound();
     stacks();
     numbers();

@@ -8,7 +8,7 @@ use mathlib.Core.List.{[]}
 use mathlib.Core.Path.{_≡_, refl, sym, _∙_, ap}
 use borrow.Author.Needs.{needs}
 use borrow.Author.Tests.{not-true, not-false}
-use Rattle.cells.specs.Rules.{allBelow, fieldTest}
+use Rattle.cells.specs.AuditTests.{allBelow, fieldTest}
 use Rattle.cells.proofs.Below.{below-step}
 use Rattle.cells.proofs.Steps.{mask-next, field-is, blank-no, blank-yes}
 use Rattle.cells.proofs.audit.blank.Statement.{statement}

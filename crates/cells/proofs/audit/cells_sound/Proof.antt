@@ -6,7 +6,7 @@ use mathlib.Core.Bool.{true, false}
 use mathlib.Core.Path.{_≡_, refl, sym, _∙_}
 use borrow.Author.Needs.{needs}
 use borrow.Author.Tests.{not-true, not-false}
-use Rattle.cells.specs.Rules.{allBelow, cellTest}
+use Rattle.cells.specs.AuditTests.{allBelow, cellTest}
 use Rattle.cells.proofs.Below.{below-step, below-fails, below-end}
 use Rattle.cells.proofs.audit.cells_sound.Statement.{statement}
 use Rattle.cells.proofs.audit.cells_sound.Tie as tie

@@ -6,7 +6,7 @@ use mathlib.Core.List.{List, _++_}
 use mathlib.Core.Path.{_≡_, refl, sym, ap, _∙_}
 use lib.ListN.{length, drop}
 use borrow.Author.Needs.{needs}
-use Rattle.cells.specs.Rules.{usedBelow}
+use Rattle.cells.specs.AuditTests.{usedBelow}
 use Rattle.cells.proofs.Steps.{used-length, gather-count, gather-step, gather-length}
 use Rattle.cells.proofs.audit.gather.Statement.{statement}
 use Rattle.cells.proofs.audit.gather.Tie as tie

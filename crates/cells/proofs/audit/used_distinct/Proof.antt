@@ -4,7 +4,7 @@ use native.Mathlib.Omega.{arith}
 use mathlib.Core.Path.{sym, ap, _∙_}
 use lib.Seq.{length-take-le}
 use borrow.Author.Needs.{needs}
-use Rattle.cells.specs.Rules.{differTest}
+use Rattle.cells.specs.AuditTests.{differTest}
 use Rattle.cells.proofs.Audits.{gathered-fit, gathered-take, gathered-length, gathered-few}
 use Rattle.cells.proofs.audit.used_distinct.Statement.{statement}
 use Rattle.cells.proofs.audit.used_distinct.Tie as tie
