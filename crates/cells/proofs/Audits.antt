@@ -11,7 +11,6 @@ use lib.ListN.{length, take, drop}
 use lib.Seq.{take-at}
 use borrow.Author.Tests.{eq-eqb, eqb-true, leb-true, le-leb, lt-ltb, ltb-true}
 use Rattle.cells.specs.Lists.{times}
-use Rattle.cells.specs.Words.{word}
 use Rattle.cells.specs.Sorted.{sortBy, cellLeq, sortedList, neighboursDiffer}
 use Rattle.cells.specs.Rules.{inUse, Differ, Sound}
 use Rattle.cells.specs.AuditTests.{allBelow, cellTest, differTest, usedBelow, sizeTest}

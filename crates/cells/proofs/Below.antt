@@ -3,9 +3,9 @@
 use Prim.Native.Nat.{ℕ, zero, suc, _+_, _<_}
 use native.Mathlib.Omega.{arith}
 use native.Mathlib.Numerals.{add-one}
-use mathlib.Core.Bool.{Bool, true, false, _&&_}
-use mathlib.Core.Path.{_≡_, refl, sym, ap, _∙_}
-use Rattle.cells.proofs.Cases.{same?, clash, and-true, and-false}
+use mathlib.Core.Bool.{Bool, true, false}
+use mathlib.Core.Path.{_≡_, refl, sym}
+use Rattle.cells.proofs.Cases.{same?, and-true, and-false}
 use Rattle.cells.specs.AuditTests.{allBelow}
 
 module _ (p : ℕ → Bool) where

@@ -1,6 +1,6 @@
 -- What the audit's small functions find, as equations of their tests: one law for each way out of a function.
 -- Assumes nothing.
-use Prim.Native.Nat.{ℕ, zero, suc, _+_, _*_, _/_, _%_, _^_, _≤_, _<_}
+use Prim.Native.Nat.{ℕ, zero, suc, _+_, _/_, _%_, _^_, _≤_, _<_}
 use native.Mathlib.Nat.{div-div-eq-div-mul, pow-suc}
 use native.Mathlib.Numerals.{add-one}
 use mathlib.Core.Bool.{Bool, true, false, cond, not, _&&_, _||_}
@@ -12,7 +12,7 @@ use lib.ListN.{length, getD, drop, set, length-append, length-drop}
 use lib.Seq.{drop-cons, set-at}
 use borrow.Author.Tests.{le-leb, lt-leb, eq-eqb, ne-eqb}
 use Rattle.cells.proofs.Cases.{and-false}
-use Rattle.cells.proofs.Below.{below-step, below-fails}
+use Rattle.cells.proofs.Below.{below-fails}
 use Rattle.cells.specs.declared.store.Store.{Store}
 use Rattle.cells.specs.Words.{word}
 use Rattle.cells.specs.Rules.{inUse, inMask}

@@ -1,65 +1,17 @@
 -- The proved table: the cases that document 01 works by hand and marks with *, its example, its orders of checks and an error it has met, as one list
 -- of rows and one computed statement over it. Assumes nothing.
-use Prim.Native.Nat.{ℕ, zero, suc, _+_}
+use Prim.Native.Nat.{ℕ, zero, suc}
 use mathlib.Core.Bool.{Bool, true, false, cond, _&&_}
 use mathlib.Core.List.{List, [], _∷_, _++_, map, flatMap}
 use mathlib.Core.Option.{Option, none, some}
 use mathlib.Core.Path.{_≡_, refl}
-use lib.Dec.{leb, ltb, eqb}
-use lib.ListN.{length, getD, take, drop, set}
+use lib.Dec.{eqb}
 use Rattle.cells.specs.Lists.{sumOf}
 use Rattle.places.specs.Ticks.{digit, lastTick, level, Place, due, slot, place, wakeTick, wakeOf, nonzeros, moves}
-use Rattle.meaning.specs.Entries.{Entry, before, insert, names, named, without, nobody, earliest}
-use Rattle.meaning.specs.Plain.{Plain, upFrom, fresh, top, onto, filed, refiled, Change, apply}
+use Rattle.meaning.specs.Entries.{Entry, before, insert, names, named, without, earliest}
+use Rattle.meaning.specs.Plain.{Plain, upFrom, fresh, top, onto, filed, refiled, apply}
 use Rattle.meaning.specs.Refusals.{Cause, firstOf, isEmpty, isNone, notAfter, behind, beyond, full, stale, spent, unsound, empty}
-use Rattle.meaning.specs.Calls.{
-  Call,
-  Put,
-  First,
-  Take,
-  Rekey,
-  Remove,
-  Arm,
-  Move,
-  Cancel,
-  Advance,
-  NextWake,
-  Answer,
-  Refused,
-  Ready,
-  Handle,
-  Changed,
-  Load,
-  Shows,
-  Advanced,
-  Wakes,
-  Shown,
-  shown,
-  Report,
-  reportOf,
-  Outcome,
-  Result,
-  causes,
-  dueBy,
-  checked,
-  allMoves,
-  handOut,
-  advanced,
-  least,
-  smallest,
-  nextWake,
-  filing,
-  refiling,
-  freeing,
-  accepted,
-  refused,
-  outcome,
-  result,
-  refusedSetUp,
-  acceptedSetUp,
-  setUpQueue,
-  setUpWheel,
-}
+use Rattle.meaning.specs.Calls.{Call, Put, First, Take, Rekey, Remove, Arm, Move, Cancel, Advance, NextWake, Answer, Refused, Ready, Handle, Changed, Load, Shows, Advanced, Wakes, Shown, shown, reportOf, causes, dueBy, checked, allMoves, handOut, advanced, least, smallest, nextWake, filing, refiling, freeing, accepted, refused, outcome, result}
 use Rattle.meaning.specs.Runs.{after, answers}
 use Rattle.meaning.specs.Heap.{
   at,

@@ -9,7 +9,7 @@ use lib.Dec.{leb, ltb, eqb}
 use Rattle.cells.specs.Lists.{All}
 use Rattle.cells.specs.Store.{wrongSize}
 use Rattle.places.specs.Ticks.{lastTick}
-use Rattle.meaning.specs.Entries.{Entry, named}
+use Rattle.meaning.specs.Entries.{named}
 use Rattle.meaning.specs.Plain.{Plain}
 
 pub record Cause : Type 0 where

@@ -1,23 +1,23 @@
 -- Each timer makes at most one move fewer than there are levels, from the arm or move that gave it its order number on, whatever is called.
 -- Assumes nothing.
-use Prim.Native.Nat.{ℕ, zero, suc, _+_, _-_, _*_, _≤_, _<_}
+use Prim.Native.Nat.{ℕ, _+_, _-_, _*_, _≤_, _<_}
 use native.Mathlib.Nat.{mul-le-mul-left}
 use native.Mathlib.Omega.{arith}
 use mathlib.Core.Bool.{Bool, true, false, cond}
-use mathlib.Core.List.{List, [], _∷_, _++_, map}
+use mathlib.Core.List.{List, [], _∷_, map}
 use mathlib.Core.Option.{Option·getD}
 use mathlib.Core.Path.{_≡_, refl, sym, ap, subst, _∙_}
 use lib.Dec.{eqb}
 use lib.ListN.{take, drop, take-append-drop}
-use borrow.Author.Tests.{eq-eqb, ne-eqb}
+use borrow.Author.Tests.{ne-eqb}
 use Rattle.cells.specs.Lists.{All, times, sumOf}
 use Rattle.cells.proofs.Cases.{atMost?}
-use Rattle.cells.proofs.Lists.{all-map, all-drop, all-both, all-every, sumOf-append, sumOf-add, sumOf-same}
+use Rattle.cells.proofs.Lists.{all-map, all-drop, all-both, sumOf-append, sumOf-add, sumOf-same}
 use Rattle.places.specs.Ticks.{moves, lastTick}
 use Rattle.places.proofs.Digits.{tick-below}
 use Rattle.places.proofs.Counts.{left, left-bound, moves-all, moves-part, moves-bound}
 use Rattle.meaning.specs.Entries.{Entry, insert, named, without, before, names, nobody}
-use Rattle.meaning.specs.Plain.{Plain, Change, stays, files, refiles, frees, hands, apply, filed, refiled}
+use Rattle.meaning.specs.Plain.{Plain, files, refiles, frees, hands, apply, filed, refiled}
 use Rattle.meaning.specs.Refusals.{Free}
 use Rattle.meaning.specs.Calls.{
   Call,

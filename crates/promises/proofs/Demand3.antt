@@ -1,42 +1,25 @@
 -- Demand 3, over the plain list.
 -- Assumes nothing.
-use Prim.Native.Nat.{ℕ, zero, suc, _+_, _-_, _*_, _≤_, _<_}
+use Prim.Native.Nat.{ℕ, _+_, _≤_, _<_}
 use native.Mathlib.Omega.{arith}
-use mathlib.Core.Bool.{Bool, true, false}
+use mathlib.Core.Bool.{Bool}
 use mathlib.Core.List.{List, [], _∷_, _++_, map, append-nil}
-use mathlib.Core.Path.{_≡_, refl, sym, ap, ap₂, subst, _∙_}
-use lib.Dec.{ltb}
-use lib.ListN.{length, take, drop, take-append-drop}
+use mathlib.Core.Path.{_≡_, sym, ap, ap₂, _∙_}
+use lib.ListN.{take, drop, take-append-drop}
 use lib.Seq.{take-add, drop-drop}
 use borrow.Author.Tests.{ltb-false}
 use Rattle.cells.specs.Lists.{All}
 use Rattle.cells.proofs.Lists.{all-map, all-drop, all-both}
 use Rattle.places.specs.Ticks.{lastTick}
 use Rattle.meaning.specs.Entries.{Entry}
-use Rattle.meaning.specs.Plain.{Plain, Change, hands, apply, onto}
-use Rattle.meaning.specs.Refusals.{beyond, behind, Free}
-use Rattle.meaning.specs.Calls.{
-  Call,
-  Advance,
-  Answer,
-  Advanced,
-  Shown,
-  shown,
-  Report,
-  isRefused,
-  reportOf,
-  causes,
-  outcome,
-  handOut,
-  result,
-  dueBy,
-  allMoves,
-}
+use Rattle.meaning.specs.Plain.{Plain, hands, apply}
+use Rattle.meaning.specs.Refusals.{beyond, Free}
+use Rattle.meaning.specs.Calls.{Advance, Answer, Advanced, Shown, shown, Report, isRefused, reportOf, causes, handOut, result, dueBy, allMoves}
 use Rattle.meaning.specs.Runs.{after, answers}
 use Rattle.meaning.proofs.Handles.{map-append}
 use Rattle.meaning.proofs.Stack.{onto-append}
 use Rattle.meaning.proofs.Due.{due-split}
-use Rattle.promises.specs.Kept.{Kept, Within, Timed}
+use Rattle.promises.specs.Kept.{Kept, Timed}
 use Rattle.promises.specs.Handed.{Handed}
 use Rattle.promises.specs.Demand3.{Ask, asked, reports, joined, total, Brings, AsOne}
 use Rattle.promises.proofs.Handed.{accepted-free, advance-free, advance-done}

@@ -2,16 +2,15 @@
 -- Assumes nothing.
 use Prim.Native.Nat.{ℕ, _≤_, _<_}
 use native.Mathlib.Omega.{arith}
-use mathlib.Core.Bool.{Bool, true, false}
-use mathlib.Core.List.{List, [], _∷_, _++_, map}
-use mathlib.Core.Option.{Option, none, some}
+use mathlib.Core.Bool.{true, false}
+use mathlib.Core.List.{List, [], _∷_, map}
+use mathlib.Core.Option.{Option, some}
 use mathlib.Core.Path.{_≡_, refl, sym, ap, _∙_}
 use lib.ListN.{take, drop, take-append-drop}
 use borrow.Author.Tests.{not-false}
 use Rattle.cells.specs.Lists.{All}
 use Rattle.cells.proofs.Cases.{test, or-false}
-use Rattle.cells.proofs.Lists.{all-map}
-use Rattle.meaning.specs.Entries.{Entry, named, names}
+use Rattle.meaning.specs.Entries.{Entry, named}
 use Rattle.meaning.specs.Plain.{Plain, Change, stays, files, refiles, frees, hands, apply}
 use Rattle.meaning.specs.Refusals.{isNone, Free}
 use Rattle.meaning.specs.Calls.{Call, Advance, OfWheel, Shown, shown, isRefused, reportOf, causes, outcome, result}

@@ -1,12 +1,10 @@
 -- Every accepted advance hands out the front of the list.
 -- Assumes nothing.
-use Prim.Native.Nat.{ℕ, zero, suc, _+_, _≤_, _<_}
+use Prim.Native.Nat.{ℕ, _≤_, _<_}
 use native.Mathlib.Omega.{arith}
-use mathlib.Core.Bool.{Bool, true, false, cond}
-use mathlib.Core.List.{List, [], _∷_}
-use mathlib.Core.Path.{_≡_, refl, sym, _∙_}
-use lib.Dec.{leb, ltb}
-use lib.ListN.{length, take, drop, length-drop}
+use mathlib.Core.Bool.{true, false}
+use mathlib.Core.Path.{_≡_, refl, _∙_}
+use lib.ListN.{length, drop, length-drop}
 use borrow.Author.Tests.{le-leb, lt-leb, le-ltb, ltb-false}
 use Rattle.cells.specs.Lists.{All}
 use Rattle.cells.proofs.Cases.{atMost?, clash}
@@ -19,7 +17,6 @@ use Rattle.meaning.specs.Calls.{Call, Advance, isRefused, refused, accepted, ou
 use Rattle.meaning.proofs.Due.{due-length, due-front, due-back, due-next, front-earliest, all-earliest, earliest-all}
 use Rattle.meaning.proofs.Orders.{ordered-drop}
 use Rattle.meaning.proofs.Given.{given-free, free-given}
-use Rattle.promises.specs.Kept.{Kept, Timed}
 use Rattle.promises.specs.Handed.{Handed}
 
 -- A call that is not refused has no cause against it, and does what an accepted call does.

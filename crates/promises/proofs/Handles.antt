@@ -1,58 +1,25 @@
 -- A handle names its own entry until that is fired, taken, cancelled or removed, and nothing afterwards, whatever is called in between.
 -- Assumes nothing.
-use Prim.Native.Nat.{ℕ, zero, suc, _≤_, _<_}
+use Prim.Native.Nat.{ℕ, _≤_, _<_}
 use native.Mathlib.Omega.{arith}
 use mathlib.Core.Bool.{Bool, true, false, cond, not, _||_}
-use mathlib.Core.List.{List, [], _∷_, _++_, map}
+use mathlib.Core.List.{List, [], _∷_}
 use mathlib.Core.Option.{Option, none, some, Option·map}
-use mathlib.Core.Path.{_≡_, refl, sym, ap, subst, subst₂, _∙_}
+use mathlib.Core.Path.{_≡_, refl, sym, ap, subst₂, _∙_}
 use lib.Dec.{eqb}
 use lib.ListN.{take, drop, take-append-drop}
 use borrow.Author.Tests.{eqb-true, eq-eqb}
-use Rattle.cells.specs.Lists.{All, times}
 use Rattle.cells.proofs.Cases.{test, clash, and-true}
-use Rattle.cells.proofs.Lists.{all-map}
-use Rattle.meaning.specs.Entries.{Entry, insert, names, named, without}
-use Rattle.meaning.specs.Plain.{Plain, top, Change, stays, files, refiles, frees, hands, apply, filed, refiled}
-use Rattle.meaning.specs.Refusals.{isNone, isEmpty, stale, firstOf, Free}
-use Rattle.meaning.specs.Calls.{
-  Call,
-  Put,
-  Rekey,
-  Remove,
-  Arm,
-  Move,
-  Cancel,
-  Answer,
-  Refused,
-  isRefused,
-  filing,
-  accepted,
-  refused,
-  causes,
-  outcome,
-  result,
-}
+use Rattle.meaning.specs.Entries.{Entry, names, named, without}
+use Rattle.meaning.specs.Plain.{Plain, Change, stays, files, refiles, frees, hands, apply, filed, refiled}
+use Rattle.meaning.specs.Refusals.{isNone}
+use Rattle.meaning.specs.Calls.{Call, outcome, result}
 use Rattle.meaning.specs.Runs.{after}
-use Rattle.meaning.proofs.Handles.{
-  ticketOf,
-  names-own,
-  names-other,
-  named-names,
-  named-insert-other,
-  named-insert-own,
-  named-absent,
-  named-without-own,
-  named-without-other,
-  named-second,
-  named-once,
-}
+use Rattle.meaning.proofs.Handles.{names-own, names-other, named-names, named-insert-other, named-insert-own, named-without-own, named-without-other, named-second, named-once}
 use Rattle.promises.specs.Kept.{Kept}
 use Rattle.promises.specs.Handles.{sameHandle, ends, ended, becomes, loadOf}
 use Rattle.promises.proofs.Allowed.{Allowed, allowed, found}
-use Rattle.promises.proofs.Kept.{unused}
-use Rattle.promises.proofs.Handed.{accepted-free, outcome-free}
-use Rattle.promises.proofs.Reached.{kept-call, kept-apply}
+use Rattle.promises.proofs.Reached.{kept-apply}
 
 same-handle : (c k c′ k′ : ℕ) → sameHandle c k c′ k′ ≡ true → (c ≡ c′) × (k ≡ k′)
 unfolding sameHandle

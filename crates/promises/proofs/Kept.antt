@@ -1,23 +1,22 @@
 -- A set-up leaves a list that keeps to the rules, and so does every call of either engine.
 -- Assumes nothing.
-use Prim.Native.Nat.{ℕ, zero, suc, _+_, _≤_, _<_}
+use Prim.Native.Nat.{ℕ, suc, _+_, _≤_, _<_}
 use native.Mathlib.Omega.{arith}
-use mathlib.Core.Bool.{Bool, true, false, cond}
-use mathlib.Core.List.{List, [], _∷_, _++_, map}
-use mathlib.Core.Option.{Option, none, some, Option·getD}
+use mathlib.Core.Bool.{false}
+use mathlib.Core.List.{List, [], _∷_, map}
+use mathlib.Core.Option.{some}
 use mathlib.Core.Path.{_≡_, refl, sym, ap, _∙_}
-use lib.Dec.{ltb, leb}
 use lib.ListN.{take, drop, take-append-drop}
 use borrow.Author.Tests.{eq-eqb}
 use Rattle.cells.specs.Lists.{All, times}
 use Rattle.cells.proofs.Cases.{clash, same?}
 use Rattle.cells.proofs.Lists.{all-map, all-drop, times-append, times-here, times-past}
-use Rattle.meaning.specs.Entries.{Entry, insert, named, without, nobody, Ordered}
-use Rattle.meaning.specs.Plain.{Plain, fresh, top, onto, filed, refiled, Change, stays, files, refiles, frees, hands, apply}
+use Rattle.meaning.specs.Entries.{Entry, named, without}
+use Rattle.meaning.specs.Plain.{Plain, filed, refiled, files, refiles, frees, hands, apply}
 use Rattle.meaning.specs.Refusals.{isEmpty, spent}
 use Rattle.meaning.proofs.Orders.{all-insert, insert-ordered, ordered-drop, times-insert}
 use Rattle.meaning.proofs.Handles.{ticketOf, names-own, named-names, named-all, all-without, ordered-without, times-without, map-append}
-use Rattle.meaning.proofs.Stack.{cellOf, times-onto, top-tail, times-upFrom}
+use Rattle.meaning.proofs.Stack.{cellOf, times-onto, top-tail}
 use Rattle.promises.specs.Kept.{Numbered, Kept}
 
 abbrev orderOf : Entry → ℕ

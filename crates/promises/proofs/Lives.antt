@@ -1,43 +1,25 @@
 -- The life of a handle: from the put or arm that gave it out to its end, and afterwards.
 -- Assumes nothing.
-use Prim.Native.Nat.{ℕ, zero, suc, _≤_, _<_}
+use Prim.Native.Nat.{ℕ, _<_}
 use native.Mathlib.Omega.{arith}
-use mathlib.Core.Bool.{Bool, true, false, cond}
+use mathlib.Core.Bool.{false, cond}
 use mathlib.Core.List.{List, [], _∷_, map}
-use mathlib.Core.Option.{Option, none, some}
-use mathlib.Core.Path.{_≡_, refl, sym, ap, _∙_}
+use mathlib.Core.Option.{none, some}
+use mathlib.Core.Path.{_≡_, refl, ap, _∙_}
 use borrow.Author.Tests.{eq-eqb, le-ltb}
 use lib.ListN.{take}
 use Rattle.cells.proofs.Cases.{atMost?, cond-same}
 use Rattle.cells.proofs.Lists.{all-map, times-here}
 use Rattle.meaning.specs.Entries.{Entry, names, named, without}
 use Rattle.meaning.specs.Plain.{Plain, top, Change, stays, files, refiles, frees, hands, apply, filed}
-use Rattle.meaning.specs.Refusals.{isNone, stale, firstOf, Free}
-use Rattle.meaning.specs.Calls.{
-  Call,
-  Put,
-  Rekey,
-  Remove,
-  Arm,
-  Move,
-  Cancel,
-  Answer,
-  Handle,
-  Refused,
-  isRefused,
-  filing,
-  accepted,
-  refused,
-  causes,
-  outcome,
-  result,
-}
+use Rattle.meaning.specs.Refusals.{isNone, stale, firstOf}
+use Rattle.meaning.specs.Calls.{Call, Put, Arm, isRefused, filing, accepted, refused, causes, outcome, result}
 use Rattle.meaning.specs.Runs.{after}
 use Rattle.meaning.proofs.Handles.{ticketOf, names-own, named-names, named-insert-own, named-absent, times-without}
 use Rattle.meaning.proofs.Stack.{cellOf}
 use Rattle.promises.specs.Kept.{Kept}
-use Rattle.promises.specs.Handles.{sameHandle, ends, ended, becomes, loadOf, Stale}
-use Rattle.promises.proofs.Allowed.{Allowed, allowed}
+use Rattle.promises.specs.Handles.{sameHandle, ended, becomes, loadOf, Stale}
+use Rattle.promises.proofs.Allowed.{allowed}
 use Rattle.promises.proofs.Kept.{unused}
 use Rattle.promises.proofs.Handed.{accepted-free, outcome-free}
 use Rattle.promises.proofs.Handles.{becomes-apply, counter-apply, own-load}

@@ -1,10 +1,10 @@
 -- The count of moves over a list, from one clock to the next and over several.
 -- Assumes nothing.
-use Prim.Native.Nat.{ℕ, zero, suc, _+_, _-_, _*_, _^_, _≤_, _<_}
+use Prim.Native.Nat.{ℕ, _+_, _-_, _*_, _≤_, _<_}
 use native.Mathlib.Omega.{arith}
-use mathlib.Core.List.{List, [], _∷_, _++_}
-use mathlib.Core.Path.{_≡_, refl, sym, ap, _∙_}
-use lib.ListN.{length, take, drop, take-append-drop}
+use mathlib.Core.List.{List, _++_}
+use mathlib.Core.Path.{_≡_}
+use lib.ListN.{length}
 use Rattle.cells.specs.Lists.{All}
 use Rattle.cells.proofs.Lists.{all-map, all-every, sumOf-append, sumOf-add, sumOf-same, sumOf-bound}
 use Rattle.places.specs.Ticks.{moves, lastTick}

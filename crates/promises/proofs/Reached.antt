@@ -1,54 +1,16 @@
 -- A set-up's list keeps to the rules, and so does every list that calls leave.
 -- Assumes nothing.
-use Prim.Native.Nat.{ℕ, zero, suc, _+_, _≤_, _<_}
+use Prim.Native.Nat.{ℕ, _≤_}
 use native.Mathlib.Omega.{arith}
-use mathlib.Core.Bool.{Bool, true, false, cond}
 use mathlib.Core.List.{List, [], _∷_}
-use mathlib.Core.Option.{Option, none, some}
-use mathlib.Core.Path.{_≡_, refl, sym, _∙_}
 use lib.Dec.{lit≤}
-use lib.ListN.{take, drop}
-use borrow.Author.Tests.{leb-false, ltb-false}
-use Rattle.cells.specs.Lists.{All, times}
-use Rattle.cells.proofs.Cases.{clash}
-use Rattle.cells.proofs.Lists.{all-map, all-drop, all-both}
-use Rattle.places.specs.Ticks.{lastTick}
-use Rattle.meaning.specs.Entries.{Entry, named}
+use Rattle.cells.specs.Lists.{times}
+use Rattle.meaning.specs.Entries.{named}
 use Rattle.meaning.specs.Plain.{Plain, fresh, Change, stays, files, refiles, frees, hands, apply}
-use Rattle.meaning.specs.Refusals.{Cause, firstOf, isEmpty, isNone, full, stale, beyond, notAfter, behind, Free}
-use Rattle.meaning.specs.Calls.{
-  Call,
-  Put,
-  First,
-  Take,
-  Rekey,
-  Remove,
-  Arm,
-  Move,
-  Cancel,
-  Advance,
-  NextWake,
-  OfWheel,
-  Answer,
-  Ready,
-  Refused,
-  Outcome,
-  causes,
-  dueBy,
-  handOut,
-  advanced,
-  filing,
-  refiling,
-  freeing,
-  accepted,
-  refused,
-  outcome,
-  result,
-}
+use Rattle.meaning.specs.Calls.{Call, outcome, result}
 use Rattle.meaning.specs.Runs.{after}
-use Rattle.meaning.proofs.Given.{given-either}
 use Rattle.meaning.proofs.Stack.{times-upFrom}
-use Rattle.promises.specs.Kept.{Numbered, Kept, Within, Timed}
+use Rattle.promises.specs.Kept.{Kept}
 use Rattle.promises.proofs.Allowed.{Allowed, allowed, found}
 use Rattle.promises.proofs.Kept.{kept-files, kept-refiles, kept-frees, kept-hands}
 

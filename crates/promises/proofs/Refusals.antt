@@ -4,12 +4,12 @@ use Prim.Native.Nat.{ℕ}
 use mathlib.Core.Bool.{Bool, true, false, cond}
 use mathlib.Core.List.{List, [], _∷_, _++_}
 use mathlib.Core.Logic.{_↔_}
-use mathlib.Core.Path.{_≡_, refl, sym, ap, _∙_}
+use mathlib.Core.Path.{_≡_, refl, ap, _∙_}
 use lib.Dec.{leb}
 use lib.ListN.{drop}
 use Rattle.cells.proofs.Cases.{clash}
 use Rattle.meaning.specs.Entries.{earliest}
-use Rattle.meaning.specs.Plain.{Plain, apply, stays}
+use Rattle.meaning.specs.Plain.{Plain, apply}
 use Rattle.meaning.specs.Refusals.{Cause, firstOf, Free, badSize, badArity, beyond, unsound}
 use Rattle.meaning.specs.Calls.{
   Call,

@@ -3,18 +3,14 @@
 use Prim.Native.Nat.{ℕ, zero, suc, _+_, _-_, _*_, _/_, _≤_, _<_}
 use native.Mathlib.Omega.{arith}
 use native.Mathlib.Nat.{div-lt-iff-lt-mul}
-use mathlib.Core.Bool.{Bool, true, false}
-use mathlib.Core.List.{List, [], _∷_}
-use mathlib.Core.Path.{_≡_, refl, sym, ap, _∙_}
+use mathlib.Core.Path.{_≡_, sym, ap, _∙_}
 use lib.Dec.{leb}
-use lib.ListN.{length, take, drop, replicate}
 use borrow.Author.Tests.{le-leb, lt-leb}
 use Rattle.cells.proofs.Cases.{atMost?}
 use Rattle.places.specs.Ticks.{lastTick}
-use Rattle.meaning.specs.Entries.{Entry, earliest}
-use Rattle.meaning.specs.Plain.{Plain, hands, apply}
+use Rattle.meaning.specs.Plain.{Plain, apply}
 use Rattle.meaning.specs.Refusals.{Free}
-use Rattle.meaning.specs.Calls.{Call, Advance, reportOf, result, causes, handOut, dueBy}
+use Rattle.meaning.specs.Calls.{Advance, reportOf, result, causes, handOut, dueBy}
 use Rattle.meaning.specs.Runs.{after}
 use Rattle.meaning.proofs.Due.{due-length, due-front, due-next, due-split}
 use Rattle.promises.specs.Rounds.{ceil, doneAfter}

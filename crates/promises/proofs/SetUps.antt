@@ -1,9 +1,9 @@
 -- "From a set-up on": an accepted set-up leaves a list that keeps to the rules, and so do all calls after it.
 -- Assumes nothing.
 use Prim.Native.Nat.{ℕ, _≤_}
-use mathlib.Core.Bool.{Bool, true, false}
+use mathlib.Core.Bool.{true, false}
 use mathlib.Core.List.{List, [], _∷_}
-use mathlib.Core.Path.{_≡_, refl, sym, subst}
+use mathlib.Core.Path.{_≡_, refl}
 use native.Mathlib.Omega.{arith}
 use lib.Dec.{eqb, ltb}
 use borrow.Author.Tests.{ltb-false, eq-eqb}
@@ -13,7 +13,7 @@ use Rattle.cells.proofs.Cases.{same?, clash, or-false}
 use Rattle.places.specs.Ticks.{lastTick}
 use Rattle.meaning.specs.Plain.{Plain, fresh}
 use Rattle.meaning.specs.Refusals.{Cause, firstOf, badSize, badArity, beyond, Free}
-use Rattle.meaning.specs.Calls.{Call, OfWheel, Answer, Ready, Refused, isRefused, Result, refusedSetUp, acceptedSetUp, setUpQueue, setUpWheel}
+use Rattle.meaning.specs.Calls.{Call, OfWheel, isRefused, Result, refusedSetUp, acceptedSetUp, setUpQueue, setUpWheel}
 use Rattle.meaning.specs.Runs.{after}
 use Rattle.meaning.proofs.Given.{given-either, given-free, free-given}
 use Rattle.promises.specs.Kept.{Kept, Timed}

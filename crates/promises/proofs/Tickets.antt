@@ -1,15 +1,13 @@
 -- Tickets and order numbers never repeat; every ticket given out is handed back at most once, and stands until then.
 -- Assumes nothing.
-use Prim.Native.Nat.{ℕ, zero, suc, _+_, _≤_, _<_}
+use Prim.Native.Nat.{ℕ, suc, _+_, _≤_}
 use native.Mathlib.Omega.{arith}
 use mathlib.Core.List.{List, [], _∷_, _++_, map}
-use mathlib.Core.Option.{Option, none, some}
-use mathlib.Core.Path.{_≡_, refl, sym, ap, _∙_}
-use lib.ListN.{take, drop}
-use Rattle.cells.specs.Lists.{All, times, Rising}
+use mathlib.Core.Path.{_≡_, ap}
+use Rattle.cells.specs.Lists.{times, Rising}
 use Rattle.cells.proofs.Cases.{atMost?}
-use Rattle.cells.proofs.Lists.{all-map, times-append, times-here, rising-weaken, rising-above, rising-once}
-use Rattle.meaning.specs.Entries.{Entry, named, without, insert}
+use Rattle.cells.proofs.Lists.{all-map, times-append, rising-weaken, rising-above, rising-once}
+use Rattle.meaning.specs.Entries.{named, without}
 use Rattle.meaning.specs.Plain.{Plain, Change, stays, files, refiles, frees, hands, apply, filed, refiled}
 use Rattle.meaning.specs.Calls.{Call, outcome, result}
 use Rattle.meaning.specs.Runs.{after}
@@ -19,7 +17,6 @@ use Rattle.promises.specs.Kept.{Kept}
 use Rattle.promises.specs.Tickets.{takesOrder, givesTicket, endsTickets, over}
 use Rattle.promises.proofs.Allowed.{Allowed, allowed, found}
 use Rattle.promises.proofs.Kept.{split, unused}
-use Rattle.promises.proofs.Reached.{kept-call}
 
 -- A number that a change takes is the counter's, and the counter is then above it.
 Draws : (Change → Plain → List ℕ) → Type 0

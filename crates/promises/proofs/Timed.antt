@@ -1,19 +1,18 @@
 -- The wheel's own rules hold from a set-up on: no deadline is ever below the clock, and nothing is above the last tick.
 -- Assumes nothing.
-use Prim.Native.Nat.{ℕ, _≤_, _<_}
+use Prim.Native.Nat.{ℕ, _≤_}
 use native.Mathlib.Omega.{arith}
 use mathlib.Core.List.{List, [], _∷_}
-use mathlib.Core.Path.{_≡_, refl, sym, subst, _∙_}
+use mathlib.Core.Path.{sym, subst, _∙_}
 use mathlib.Core.Option.{Option·getD}
-use lib.Dec.{leb, ltb}
-use lib.ListN.{take, drop}
+use lib.ListN.{drop}
 use borrow.Author.Tests.{leb-false, ltb-false}
 use Rattle.cells.specs.Lists.{All}
 use Rattle.cells.proofs.Lists.{all-map, all-drop, all-both}
 use Rattle.places.specs.Ticks.{lastTick}
 use Rattle.meaning.specs.Entries.{Entry, named, without, nobody}
-use Rattle.meaning.specs.Plain.{Plain, fresh, filed, refiled, Change, stays, files, refiles, frees, hands, apply}
-use Rattle.meaning.specs.Refusals.{beyond, notAfter, behind, stale, Free}
+use Rattle.meaning.specs.Plain.{Plain, fresh, filed, refiled, hands, apply}
+use Rattle.meaning.specs.Refusals.{beyond, notAfter, Free}
 use Rattle.meaning.specs.Calls.{
   Call,
   Put,

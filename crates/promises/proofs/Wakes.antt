@@ -1,17 +1,16 @@
 -- Next wake: none exactly where nothing stands, else when the list of the earliest entry is looked at next.
 -- Assumes nothing.
-use Prim.Native.Nat.{ℕ, zero, suc, _≤_, _<_, min, _^_}
+use Prim.Native.Nat.{ℕ, _≤_, _<_, min}
 use native.Mathlib.Omega.{arith}
 use mathlib.Core.Bool.{true}
 use mathlib.Core.List.{List, [], _∷_, map}
-use mathlib.Core.Option.{Option, none, some}
+use mathlib.Core.Option.{none, some}
 use mathlib.Core.Path.{_≡_, refl, sym, ap, _∙_}
-use lib.Dec.{eqb}
 use borrow.Author.Tests.{eq-eqb, ne-eqb}
 use Rattle.cells.specs.Lists.{All}
 use Rattle.cells.proofs.Cases.{same?}
 use Rattle.cells.proofs.Lists.{all-map, all-both}
-use Rattle.places.specs.Ticks.{place, wakeOf, lastTick}
+use Rattle.places.specs.Ticks.{place, wakeOf}
 use Rattle.places.proofs.Digits.{tick-below}
 use Rattle.places.proofs.Wakes.{wake-now, wake-mono}
 use Rattle.meaning.specs.Entries.{Entry, before, Ordered}
@@ -19,7 +18,7 @@ use Rattle.meaning.specs.Plain.{Plain}
 use Rattle.meaning.specs.Calls.{dueBy, least, smallest, nextWake}
 use Rattle.meaning.proofs.Orders.{before-atMost}
 use Rattle.meaning.proofs.Due.{due-more, due-none}
-use Rattle.promises.specs.Kept.{Within, Timed}
+use Rattle.promises.specs.Kept.{Within}
 
 -- A number that is at most all others is the least.
 least-first : (x : ℕ) (ys : List ℕ) → All (λ (y : ℕ). x ≤ y) ys → least x ys ≡ x

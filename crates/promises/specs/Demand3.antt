@@ -2,14 +2,13 @@
 -- answering "done" at U. The firings joined, the entries left, every later answer and the total of moves between levels equal those of one advance
 -- with room for all. The total is the formula of document 01, at most five for each timer since it was last armed or moved."
 -- Assumes nothing.
-use Prim.Native.Nat.{ℕ, zero, suc, _+_, _-_, _*_, _≤_}
-use mathlib.Core.Bool.{Bool, true, false}
+use Prim.Native.Nat.{ℕ, zero, _+_, _-_, _*_, _≤_}
+use mathlib.Core.Bool.{true, false}
 use mathlib.Core.List.{List, [], _∷_, _++_, map}
 use mathlib.Core.Path.{_≡_}
 use lib.ListN.{length}
-use Rattle.meaning.specs.Entries.{Entry}
 use Rattle.meaning.specs.Plain.{Plain}
-use Rattle.meaning.specs.Calls.{Call, Advance, Answer, Shown, Report, isRefused, reportOf, result, allMoves}
+use Rattle.meaning.specs.Calls.{Call, Advance, Shown, Report, isRefused, reportOf, result, allMoves}
 use Rattle.meaning.specs.Runs.{after, answers}
 
 -- An advance that is asked for: its target and its room.

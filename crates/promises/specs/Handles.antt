@@ -1,7 +1,7 @@
 -- "A handle names its own entry until that is fired, taken, cancelled or removed, and nothing afterwards."
 -- Assumes nothing.
 use Prim.Native.Nat.{ℕ}
-use mathlib.Core.Bool.{Bool, true, false, cond, not, _&&_, _||_}
+use mathlib.Core.Bool.{Bool, false, cond, not, _&&_, _||_}
 use mathlib.Core.List.{List, [], _∷_}
 use mathlib.Core.Option.{Option, none, some, Option·map}
 use mathlib.Core.Path.{_≡_}
@@ -10,7 +10,7 @@ use lib.ListN.{take}
 use Rattle.meaning.specs.Entries.{Entry, named}
 use Rattle.meaning.specs.Plain.{Plain, Change, stays, files, refiles, frees, hands, refiled}
 use Rattle.meaning.specs.Refusals.{isNone}
-use Rattle.meaning.specs.Calls.{Call, Rekey, Remove, Move, Cancel, Answer, Refused, outcome, result}
+use Rattle.meaning.specs.Calls.{Call, Rekey, Remove, Move, Cancel, Refused, outcome, result}
 
 -- Two handles are the same: cell and ticket.
 unfoldable pub sameHandle : ℕ → ℕ → ℕ → ℕ → Bool

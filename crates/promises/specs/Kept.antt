@@ -2,7 +2,7 @@
 -- Assumes nothing.
 use Prim.Native.Nat.{ℕ, _+_, _≤_, _<_}
 use mathlib.Core.Bool.{cond}
-use mathlib.Core.List.{List, [], _∷_, map}
+use mathlib.Core.List.{map}
 use mathlib.Core.Path.{_≡_}
 use lib.Dec.{ltb}
 use Rattle.cells.specs.Lists.{All, times}
