@@ -5,3 +5,9 @@ pub mod Handles
 pub mod Stack
 pub mod Given
 pub mod Due
+pub mod Allowed
+pub mod Kept
+pub mod Reached
+pub mod Handed
+pub mod Timed
+pub mod Becomes

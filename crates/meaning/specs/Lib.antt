@@ -5,3 +5,6 @@ pub mod Refusals
 pub mod Calls
 pub mod Runs
 pub mod Heap
+pub mod Kept
+pub mod Handed
+pub mod Becomes

@@ -44,13 +44,13 @@ use Rattle.meaning.specs.Calls.{
   result,
 }
 use Rattle.meaning.proofs.Given.{given-either}
-use Rattle.promises.specs.Kept.{Kept, Within, Timed}
-use Rattle.promises.specs.Handed.{Handed}
-use Rattle.promises.proofs.Kept.{unused}
-use Rattle.promises.proofs.Handed.{outcome-free}
-use Rattle.promises.proofs.Reached.{kept-call}
-use Rattle.promises.proofs.Timed.{timed-call, advance-hands}
-use Rattle.promises.proofs.Handles.{counter-call}
+use Rattle.meaning.specs.Kept.{Kept, Within, Timed}
+use Rattle.meaning.specs.Handed.{Handed}
+use Rattle.meaning.proofs.Kept.{unused}
+use Rattle.meaning.proofs.Handed.{outcome-free}
+use Rattle.meaning.proofs.Reached.{kept-call}
+use Rattle.meaning.proofs.Timed.{timed-call, advance-hands}
+use Rattle.meaning.proofs.Becomes.{counter-call}
 use Rattle.promises.specs.Bounds.{movesOf, movesOver}
 
 -- What the entry with order number o still has to move at clock a.

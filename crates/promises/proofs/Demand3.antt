@@ -19,12 +19,12 @@ use Rattle.meaning.specs.Runs.{after, answers}
 use Rattle.meaning.proofs.Handles.{map-append}
 use Rattle.meaning.proofs.Stack.{onto-append}
 use Rattle.meaning.proofs.Due.{due-split}
-use Rattle.promises.specs.Kept.{Kept, Timed}
-use Rattle.promises.specs.Handed.{Handed}
+use Rattle.meaning.specs.Kept.{Kept, Timed}
+use Rattle.meaning.specs.Handed.{Handed}
 use Rattle.promises.specs.Demand3.{Ask, asked, reports, joined, total, Brings, AsOne}
-use Rattle.promises.proofs.Handed.{accepted-free, advance-free, advance-done}
-use Rattle.promises.proofs.Reached.{kept-call}
-use Rattle.promises.proofs.Timed.{timed-call, advance-hands}
+use Rattle.meaning.proofs.Handed.{accepted-free, advance-free, advance-done}
+use Rattle.meaning.proofs.Reached.{kept-call}
+use Rattle.meaning.proofs.Timed.{timed-call, advance-hands}
 use Rattle.promises.proofs.Moves.{allMoves-append, allMoves-early, allMoves-late, allMoves-bound}
 
 -- What a hand-out reports.

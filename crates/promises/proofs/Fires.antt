@@ -17,15 +17,16 @@ use Rattle.meaning.specs.Calls.{Call, Advance, OfWheel, Shown, shown, isRefused
 use Rattle.meaning.specs.Runs.{after}
 use Rattle.meaning.proofs.Handles.{map-append, names-own, named-names, named-all}
 use Rattle.meaning.proofs.Due.{due-back}
-use Rattle.promises.specs.Kept.{Numbered, Kept, Within, Timed}
-use Rattle.promises.specs.Handed.{Handed}
+use Rattle.meaning.specs.Kept.{Numbered, Kept, Within, Timed}
+use Rattle.meaning.specs.Handed.{Handed}
 use Rattle.promises.specs.Fires.{Fires, moves, moved}
-use Rattle.promises.specs.Handles.{ends, ended, becomes}
-use Rattle.promises.proofs.Allowed.{allowed}
-use Rattle.promises.proofs.Reached.{kept-apply}
-use Rattle.promises.proofs.Handles.{becomes-apply, counter-apply}
-use Rattle.promises.proofs.Handed.{accepted-free}
-use Rattle.promises.proofs.Timed.{advance-hands, timed-run}
+use Rattle.promises.specs.Handles.{ends, ended}
+use Rattle.meaning.specs.Becomes.{becomes}
+use Rattle.meaning.proofs.Allowed.{allowed}
+use Rattle.meaning.proofs.Reached.{kept-apply}
+use Rattle.meaning.proofs.Becomes.{becomes-apply, counter-apply}
+use Rattle.meaning.proofs.Handed.{accepted-free}
+use Rattle.meaning.proofs.Timed.{advance-hands, timed-run}
 use Rattle.promises.proofs.Demand3.{reportedBy, handed-next, handed-answer}
 
 all-shown : (c : ℕ) (es : List Entry) → All (λ (e : Entry). e .key ≤ c) es → All (λ (x : Shown). x .key ≤ c) (map shown es)

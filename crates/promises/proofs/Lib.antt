@@ -1,9 +1,4 @@
 -- The promises over the plain list.
-pub mod Kept
-pub mod Allowed
-pub mod Handed
-pub mod Reached
-pub mod Timed
 pub mod Moves
 pub mod Demand3
 pub mod Rounds

@@ -17,13 +17,15 @@ use Rattle.meaning.specs.Calls.{Call, Put, Arm, isRefused, filing, accepted, re
 use Rattle.meaning.specs.Runs.{after}
 use Rattle.meaning.proofs.Handles.{ticketOf, names-own, named-names, named-insert-own, named-absent, times-without}
 use Rattle.meaning.proofs.Stack.{cellOf}
-use Rattle.promises.specs.Kept.{Kept}
-use Rattle.promises.specs.Handles.{sameHandle, ended, becomes, loadOf, Stale}
-use Rattle.promises.proofs.Allowed.{allowed}
-use Rattle.promises.proofs.Kept.{unused}
-use Rattle.promises.proofs.Handed.{accepted-free, outcome-free}
-use Rattle.promises.proofs.Handles.{becomes-apply, counter-apply, own-load}
-use Rattle.promises.proofs.Reached.{kept-apply}
+use Rattle.meaning.specs.Kept.{Kept}
+use Rattle.promises.specs.Handles.{ended, loadOf, Stale}
+use Rattle.meaning.specs.Becomes.{sameHandle, becomes}
+use Rattle.meaning.proofs.Allowed.{allowed}
+use Rattle.meaning.proofs.Kept.{unused}
+use Rattle.meaning.proofs.Handed.{accepted-free, outcome-free}
+use Rattle.promises.proofs.Handles.{own-load}
+use Rattle.meaning.proofs.Becomes.{becomes-apply, counter-apply}
+use Rattle.meaning.proofs.Reached.{kept-apply}
 
 -- The handle that a new entry's put or arm answers names that entry.
 pub names-new : (s : Plain) → Kept s → (key load : ℕ) → named (top (s .free)) (s .counter) (apply (files key load) s .entries) ≡ some (filed key load s)

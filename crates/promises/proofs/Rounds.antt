@@ -14,7 +14,7 @@ use Rattle.meaning.specs.Calls.{Advance, reportOf, result, causes, handOut, due
 use Rattle.meaning.specs.Runs.{after}
 use Rattle.meaning.proofs.Due.{due-length, due-front, due-next, due-split}
 use Rattle.promises.specs.Rounds.{ceil, doneAfter}
-use Rattle.promises.proofs.Handed.{advance-free, advance-done, advance-more}
+use Rattle.meaning.proofs.Handed.{advance-free, advance-done, advance-more}
 
 -- Two tests of numbers that say the same are equal.
 leb-same : (a b c d : ℕ) → (a ≤ b → c ≤ d) → (c ≤ d → a ≤ b) → leb a b ≡ leb c d

@@ -16,9 +16,9 @@ use Rattle.meaning.specs.Refusals.{Cause, firstOf, badSize, badArity, beyond, F
 use Rattle.meaning.specs.Calls.{Call, OfWheel, isRefused, Result, refusedSetUp, acceptedSetUp, setUpQueue, setUpWheel}
 use Rattle.meaning.specs.Runs.{after}
 use Rattle.meaning.proofs.Given.{given-either, given-free, free-given}
-use Rattle.promises.specs.Kept.{Kept, Timed}
-use Rattle.promises.proofs.Reached.{kept-fresh, kept-run}
-use Rattle.promises.proofs.Timed.{timed-fresh, timed-run}
+use Rattle.meaning.specs.Kept.{Kept, Timed}
+use Rattle.meaning.proofs.Reached.{kept-fresh, kept-run}
+use Rattle.meaning.proofs.Timed.{timed-fresh, timed-run}
 
 -- A set-up of either engine, by its causes.
 module _ (cs : List Cause) (cells t : ℕ) (s : Plain) where

@@ -13,10 +13,10 @@ use Rattle.meaning.specs.Calls.{Call, outcome, result}
 use Rattle.meaning.specs.Runs.{after}
 use Rattle.meaning.proofs.Orders.{times-insert}
 use Rattle.meaning.proofs.Handles.{ticketOf, named-names, names-own, times-without}
-use Rattle.promises.specs.Kept.{Kept}
+use Rattle.meaning.specs.Kept.{Kept}
 use Rattle.promises.specs.Tickets.{takesOrder, givesTicket, endsTickets, over}
-use Rattle.promises.proofs.Allowed.{Allowed, allowed, found}
-use Rattle.promises.proofs.Kept.{split, unused}
+use Rattle.meaning.proofs.Allowed.{Allowed, allowed, found}
+use Rattle.meaning.proofs.Kept.{split, unused}
 
 -- A number that a change takes is the counter's, and the counter is then above it.
 Draws : (Change → Plain → List ℕ) → Type 0

@@ -18,7 +18,7 @@ use Rattle.meaning.specs.Plain.{Plain}
 use Rattle.meaning.specs.Calls.{dueBy, least, smallest, nextWake}
 use Rattle.meaning.proofs.Orders.{before-atMost}
 use Rattle.meaning.proofs.Due.{due-more, due-none}
-use Rattle.promises.specs.Kept.{Within}
+use Rattle.meaning.specs.Kept.{Within}
 
 -- A number that is at most all others is the least.
 least-first : (x : ℕ) (ys : List ℕ) → All (λ (y : ℕ). x ≤ y) ys → least x ys ≡ x

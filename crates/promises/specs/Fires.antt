@@ -8,7 +8,7 @@ use Rattle.cells.specs.Lists.{All}
 use Rattle.meaning.specs.Entries.{Entry}
 use Rattle.meaning.specs.Plain.{Plain, Change, stays, files, refiles, frees, hands}
 use Rattle.meaning.specs.Calls.{Call, Advance, Shown, shown, reportOf, outcome, result}
-use Rattle.promises.specs.Handles.{sameHandle}
+use Rattle.meaning.specs.Becomes.{sameHandle}
 
 -- What every accepted advance keeps to.
 pub record Fires (b n t r : ℕ) (s : Plain) : Type 0 where

@@ -1,20 +1,16 @@
 -- "A handle names its own entry until that is fired, taken, cancelled or removed, and nothing afterwards."
 -- Assumes nothing.
 use Prim.Native.Nat.{ℕ}
-use mathlib.Core.Bool.{Bool, false, cond, not, _&&_, _||_}
+use mathlib.Core.Bool.{Bool, false, not, _||_}
 use mathlib.Core.List.{List, [], _∷_}
-use mathlib.Core.Option.{Option, none, some, Option·map}
+use mathlib.Core.Option.{Option, none, some}
 use mathlib.Core.Path.{_≡_}
-use lib.Dec.{eqb}
 use lib.ListN.{take}
 use Rattle.meaning.specs.Entries.{Entry, named}
-use Rattle.meaning.specs.Plain.{Plain, Change, stays, files, refiles, frees, hands, refiled}
+use Rattle.meaning.specs.Plain.{Plain, Change, stays, files, refiles, frees, hands}
+use Rattle.meaning.specs.Becomes.{sameHandle}
 use Rattle.meaning.specs.Refusals.{isNone}
 use Rattle.meaning.specs.Calls.{Call, Rekey, Remove, Move, Cancel, Refused, outcome, result}
-
--- Two handles are the same: cell and ticket.
-unfoldable pub sameHandle : ℕ → ℕ → ℕ → ℕ → Bool
-sameHandle c k c′ k′ = eqb c c′ && eqb k k′
 
 -- The change ends the handle's entry: gives it back by this handle, or hands it out among the first.
 unfoldable pub ends : ℕ → ℕ → Change → Plain → Bool
@@ -28,14 +24,6 @@ ends c k (hands m t) s = not (isNone (named c k (take m (s .entries))))
 unfoldable pub ended : ℕ → ℕ → ℕ → ℕ → List Call → Plain → Bool
 ended b n c k [] s = false
 ended b n c k (call ∷ calls) s = ends c k (outcome b n call s .change) s || ended b n c k calls (result b n call s .next)
-
--- What a change makes of the handle's entry: another key by this handle, nothing where it ends, else what it was.
-unfoldable pub becomes : ℕ → ℕ → Change → Plain → Option Entry → Option Entry
-becomes c k stays s o = o
-becomes c k (files key load) s o = o
-becomes c k (refiles c′ k′ key) s o = cond (sameHandle c k c′ k′) (Option·map (refiled key s) o) o
-becomes c k (frees c′ k′) s o = cond (sameHandle c k c′ k′) none o
-becomes c k (hands m t) s o = cond (isNone (named c k (take m (s .entries)))) o none
 
 -- The load of the entry that a handle names, if it names one.
 unfoldable pub loadOf : Option Entry → Option ℕ

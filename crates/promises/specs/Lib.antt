@@ -1,6 +1,4 @@
 -- The words in which the promises are put.
-pub mod Kept
-pub mod Handed
 pub mod Demand3
 pub mod Rounds
 pub mod Refusals

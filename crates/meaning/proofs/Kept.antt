@@ -11,13 +11,13 @@ use borrow.Author.Tests.{eq-eqb}
 use Rattle.cells.specs.Lists.{All, times}
 use Rattle.cells.proofs.Cases.{clash, same?}
 use Rattle.cells.proofs.Lists.{all-map, all-drop, times-append, times-here, times-past}
 use Rattle.meaning.specs.Entries.{Entry, named, without}
 use Rattle.meaning.specs.Plain.{Plain, filed, refiled, files, refiles, frees, hands, apply}
 use Rattle.meaning.specs.Refusals.{isEmpty, spent}
 use Rattle.meaning.proofs.Orders.{all-insert, insert-ordered, ordered-drop, times-insert}
 use Rattle.meaning.proofs.Handles.{ticketOf, names-own, named-names, named-all, all-without, ordered-without, times-without, map-append}
 use Rattle.meaning.proofs.Stack.{cellOf, times-onto, top-tail}
-use Rattle.promises.specs.Kept.{Numbered, Kept}
+use Rattle.meaning.specs.Kept.{Numbered, Kept}
 
 abbrev orderOf : Entry → ℕ
 orderOf e = e .order

@@ -10,14 +10,14 @@ use Rattle.cells.specs.Lists.{All}
 use Rattle.cells.proofs.Cases.{atMost?, clash}
 use Rattle.cells.proofs.Lists.{all-map, all-drop}
 use Rattle.places.specs.Ticks.{lastTick}
 use Rattle.meaning.specs.Entries.{Entry, Ordered, earliest}
 use Rattle.meaning.specs.Plain.{Plain}
 use Rattle.meaning.specs.Refusals.{beyond, behind, Free}
 use Rattle.meaning.specs.Calls.{Call, Advance, isRefused, refused, accepted, outcome, causes, advanced, handOut, dueBy}
 use Rattle.meaning.proofs.Due.{due-length, due-front, due-back, due-next, front-earliest, all-earliest, earliest-all}
 use Rattle.meaning.proofs.Orders.{ordered-drop}
 use Rattle.meaning.proofs.Given.{given-free, free-given}
-use Rattle.promises.specs.Handed.{Handed}
+use Rattle.meaning.specs.Handed.{Handed}
 
 -- A call that is not refused has no cause against it, and does what an accepted call does.
 pub accepted-free : (b n : ℕ) (call : Call) (s : Plain) → isRefused (outcome b n call s .answer) ≡ false → Free (causes b n call s)

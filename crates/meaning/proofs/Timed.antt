@@ -37,14 +37,14 @@ use Rattle.meaning.specs.Calls.{
   outcome,
   result,
 }
 use Rattle.meaning.specs.Runs.{after}
 use Rattle.meaning.proofs.Orders.{all-insert}
 use Rattle.meaning.proofs.Handles.{all-without}
 use Rattle.meaning.proofs.Given.{given-either}
-use Rattle.promises.specs.Kept.{Kept, Within, Timed}
-use Rattle.promises.specs.Handed.{Handed}
-use Rattle.promises.proofs.Handed.{outcome-free, handed}
-use Rattle.promises.proofs.Reached.{kept-call}
+use Rattle.meaning.specs.Kept.{Kept, Within, Timed}
+use Rattle.meaning.specs.Handed.{Handed}
+use Rattle.meaning.proofs.Handed.{outcome-free, handed}
+use Rattle.meaning.proofs.Reached.{kept-call}
 
 pub timed-fresh : (b n cells t : ℕ) → t ≤ lastTick b n → Timed b n (fresh cells t)
 unfolding fresh

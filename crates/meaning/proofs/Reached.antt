@@ -5,14 +5,14 @@ use native.Mathlib.Omega.{arith}
 use mathlib.Core.List.{List, [], _∷_}
 use lib.Dec.{lit≤}
 use Rattle.cells.specs.Lists.{times}
 use Rattle.meaning.specs.Entries.{named}
 use Rattle.meaning.specs.Plain.{Plain, fresh, Change, stays, files, refiles, frees, hands, apply}
 use Rattle.meaning.specs.Calls.{Call, outcome, result}
 use Rattle.meaning.specs.Runs.{after}
 use Rattle.meaning.proofs.Stack.{times-upFrom}
-use Rattle.promises.specs.Kept.{Kept}
-use Rattle.promises.proofs.Allowed.{Allowed, allowed, found}
-use Rattle.promises.proofs.Kept.{kept-files, kept-refiles, kept-frees, kept-hands}
+use Rattle.meaning.specs.Kept.{Kept}
+use Rattle.meaning.proofs.Allowed.{Allowed, allowed, found}
+use Rattle.meaning.proofs.Kept.{kept-files, kept-refiles, kept-frees, kept-hands}
 
 -- A set-up's list.
 pub kept-fresh : (cells t : ℕ) → 1 ≤ cells → cells ≤ 4096 → Kept (fresh cells t)

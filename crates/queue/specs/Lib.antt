@@ -1,0 +1,2 @@
+-- What the ready queue keeps.
+pub mod HeapOrder

@@ -1,0 +1,1 @@
+// The ready queue: a d-ary heap with handles over the cell store.
