@@ -10,3 +10,4 @@ pub mod Fires
 pub mod Wakes
 pub mod Bounds
 pub mod SetUps
+pub mod Demands
