@@ -17,3 +17,5 @@ pub mod Moves
 pub mod MovesBound
 pub mod RemoveMoves
 pub mod StepBounds
+pub mod Seats
+pub mod Meets

@@ -1,0 +1,40 @@
+-- When a model of a ready queue means a plain list.
+-- Assumes nothing.
+use Prim.Native.Nat.{ℕ, _≤_}
+use mathlib.Core.List.{List, map}
+use mathlib.Core.Path.{_≡_}
+use Rattle.cells.specs.Lists.{times}
+use Rattle.meaning.specs.Entries.{Entry}
+use Rattle.meaning.specs.Plain.{Plain}
+use Rattle.meaning.specs.Calls.{Call, Put, First, Take, Rekey, Remove, Arm, Move, Cancel, Advance, NextWake}
+use Rattle.queue.specs.HeapOrder.{InOrder}
+use Rattle.queue.specs.Model.{Model}
+
+-- The same entries in any order: whatever number is read off an entry, it stands as often in one list as in the other.
+abbrev pub SameEntries : List Entry → List Entry → Type 0
+SameEntries xs ys = (f : Entry → ℕ) (k : ℕ) → times k (map f xs) ≡ times k (map f ys)
+
+-- The same entries, in the heap's order here and in the plain list's there; counter, N and free stack are the same.
+pub record Means (m : Model) (s : Plain) : Type 0 where
+  -- "arity 2 to 8"
+  pub some : 2 ≤ m .arity
+  pub most : m .arity ≤ 8
+  -- "none is before its parent"
+  pub ordered : InOrder (m .arity) (m .heap)
+  pub entries : SameEntries (m .heap) (s .entries)
+  pub counter : m .counter ≡ s .counter
+  pub cells : m .cells ≡ s .cells
+  pub free : m .free ≡ s .free
+
+-- The ready queue's calls.
+abbrev pub OfQueue : Call → Type 0
+OfQueue (Put key load) = Unit {0}
+OfQueue First = Unit {0}
+OfQueue Take = Unit {0}
+OfQueue (Rekey c k key) = Unit {0}
+OfQueue (Remove c k) = Unit {0}
+OfQueue (Arm e load) = ⊥
+OfQueue (Move c k e) = ⊥
+OfQueue (Cancel c k) = ⊥
+OfQueue (Advance t r) = ⊥
+OfQueue NextWake = ⊥
