@@ -19,3 +19,4 @@ pub mod RemoveMoves
 pub mod StepBounds
 pub mod Seats
 pub mod Meets
+pub mod ModelRuns

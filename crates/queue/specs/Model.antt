@@ -4,7 +4,7 @@ use Prim.Native.Nat.{ℕ, zero, suc}
 use mathlib.Core.Bool.{cond}
 use mathlib.Core.List.{List, [], _∷_, tail}
 use Rattle.meaning.specs.Entries.{Entry, names}
-use Rattle.meaning.specs.Plain.{Plain, top, filed, refiled}
+use Rattle.meaning.specs.Plain.{Plain, upFrom, top, filed, refiled}
 use Rattle.meaning.specs.Refusals.{firstOf}
 use Rattle.meaning.specs.Calls.{
   Call,
@@ -95,3 +95,12 @@ step call m = firstOf (causes 64 6 call (asPlain m)) (λ i. record { answer = Re
 -- "Moves reported are the number of entries present both before and after the call that stand at another position."
 unfoldable pub stepMoves : Call → Model → ℕ
 stepMoves call m = heapMoves (m .heap) (step call m .next .heap)
+
+-- "A counter starts at 1." "After set-up cell 0 is on top, then 1, and so on."
+unfoldable pub freshModel : ℕ → ℕ → Model
+freshModel d cells = record { arity = d; heap = []; counter = 1; cells = cells; free = upFrom 0 cells }
+
+-- The answers of calls, each on the model that the call before left.
+unfoldable pub stepAnswers : List Call → Model → List Answer
+stepAnswers [] m = []
+stepAnswers (call ∷ calls) m = step call m .answer ∷ stepAnswers calls (step call m .next)
