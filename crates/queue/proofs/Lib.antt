@@ -1,22 +1,4 @@
--- Laws of the heap.
-pub mod Behind
-pub mod Positions
-pub mod Exchanges
-pub mod Children
-pub mod Rising
-pub mod Sinking
-pub mod HeapKeeps
-pub mod Root
-pub mod Carrying
-pub mod Differing
-pub mod Permutes
-pub mod Levels
-pub mod Paths
-pub mod Displaced
-pub mod Moves
-pub mod MovesBound
-pub mod RemoveMoves
-pub mod StepBounds
+-- Laws of the queue's model.
 pub mod Seats
 pub mod Meets
 pub mod ModelRuns

@@ -11,7 +11,7 @@ use Rattle.meaning.specs.Kept.{Kept}
 use Rattle.meaning.proofs.Reached.{kept-fresh, kept-call}
 use Rattle.queue.specs.Model.{Model, step, freshModel, stepAnswers}
 use Rattle.queue.specs.Means.{Means, OfQueue}
-use Rattle.queue.proofs.HeapKeeps.{empty-in-order}
+use Rattle.heap.proofs.HeapKeeps.{empty-in-order}
 use Rattle.queue.proofs.Meets.{meets}
 
 -- A set-up's model means a set-up's list.

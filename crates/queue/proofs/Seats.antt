@@ -14,10 +14,10 @@ use Rattle.cells.proofs.Cases.{same?, test, clash}
 use Rattle.meaning.specs.Entries.{Entry, before, names, named, without, earliest, Ordered}
 use Rattle.meaning.specs.Heap.{at}
 use Rattle.meaning.proofs.Handles.{ticketOf, names-own, named-none, named-all, named-names, named-absent, times-without, named-without-own, named-without-other}
-use Rattle.queue.specs.HeapOrder.{InOrder}
+use Rattle.heap.specs.HeapOrder.{InOrder}
 use Rattle.queue.specs.Model.{seatOf}
 use Rattle.queue.specs.Means.{SameEntries}
-use Rattle.queue.proofs.Root.{root-first}
+use Rattle.heap.proofs.Root.{root-first}
 
 -- An entry of five words.
 abbrev made : (key order cell ticket load : ℕ) → Entry

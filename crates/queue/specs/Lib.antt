@@ -1,4 +1,3 @@
--- What the ready queue keeps, its model, and when that means a plain list.
-pub mod HeapOrder
+-- The ready queue's model, and when that means a plain list.
 pub mod Model
 pub mod Means

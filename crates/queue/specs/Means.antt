@@ -7,7 +7,7 @@ use Rattle.cells.specs.Lists.{times}
 use Rattle.meaning.specs.Entries.{Entry}
 use Rattle.meaning.specs.Plain.{Plain}
 use Rattle.meaning.specs.Calls.{Call, Put, First, Take, Rekey, Remove, Arm, Move, Cancel, Advance, NextWake}
-use Rattle.queue.specs.HeapOrder.{InOrder}
+use Rattle.heap.specs.HeapOrder.{InOrder}
 use Rattle.queue.specs.Model.{Model}
 
 -- The same entries in any order: whatever number is read off an entry, it stands as often in one list as in the other.

@@ -14,7 +14,7 @@ use Rattle.cells.specs.Lists.{times}
 use Rattle.cells.proofs.Cases.{same?, and-true}
 use Rattle.cells.proofs.Lists.{times-append}
 use Rattle.meaning.specs.Entries.{Entry, before, nobody}
-use Rattle.queue.proofs.Exchanges.{length-exchange}
+use Rattle.heap.proofs.Exchanges.{length-exchange}
 use Rattle.meaning.specs.Heap.{at, parent, exchange, early, rise, earlier, child, sink, settle, heapPut, heapRemove, heapRekey}
 use Rattle.meaning.proofs.Handles.{map-append}
 

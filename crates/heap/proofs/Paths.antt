@@ -11,10 +11,10 @@ use Rattle.cells.proofs.Cases.{test, same?}
 use Rattle.cells.proofs.Lists.{times-here, times-past}
 use Rattle.meaning.specs.Entries.{Entry}
 use Rattle.meaning.specs.Heap.{parent, exchange, early, rise, earlier, child, sink, settle, steps, levels}
-use Rattle.queue.proofs.Permutes.{by-arms, parent-atMost, earlier-filled, early-above}
-use Rattle.queue.proofs.Levels.{steps-parent, steps-levels, steps-child}
-use Rattle.queue.proofs.Children.{child-below}
-use Rattle.queue.proofs.Exchanges.{length-exchange}
+use Rattle.heap.proofs.Permutes.{by-arms, parent-atMost, earlier-filled, early-above}
+use Rattle.heap.proofs.Levels.{steps-parent, steps-levels, steps-child}
+use Rattle.heap.proofs.Children.{child-below}
+use Rattle.heap.proofs.Exchanges.{length-exchange}
 
 -- The entry at the first position goes to each of the others in turn, by exchanges.
 unfoldable pub along : ℕ → List ℕ → List Entry → List Entry

@@ -10,12 +10,12 @@ use lib.ListN.{length}
 use Rattle.cells.proofs.Cases.{same?}
 use Rattle.meaning.specs.Entries.{Entry, before}
 use Rattle.meaning.specs.Heap.{at, parent, exchange, early, rise, earlier, child, sink, settle}
-use Rattle.queue.specs.HeapOrder.{InOrder, InOrderBut, MaySink}
-use Rattle.queue.proofs.Behind.{behind-trans, before-behind}
-use Rattle.queue.proofs.Positions.{parent-below}
-use Rattle.queue.proofs.Exchanges.{Exchanged, exchanged}
-use Rattle.queue.proofs.Children.{earlier-true, earlier-false, child-parent, child-below, child-filled-by, child-first}
-use Rattle.queue.proofs.Rising.{early-true, early-false, rise-keeps}
+use Rattle.heap.specs.HeapOrder.{InOrder, InOrderBut, MaySink}
+use Rattle.heap.proofs.Behind.{behind-trans, before-behind}
+use Rattle.heap.proofs.Positions.{parent-below}
+use Rattle.heap.proofs.Exchanges.{Exchanged, exchanged}
+use Rattle.heap.proofs.Children.{earlier-true, earlier-false, child-parent, child-below, child-filled-by, child-first}
+use Rattle.heap.proofs.Rising.{early-true, early-false, rise-keeps}
 
 -- A heap in which only children of i may be before it is in order if none is.
 pub sink-ends : (d i : ℕ) (h : List Entry) → MaySink d h i

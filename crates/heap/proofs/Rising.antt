@@ -12,10 +12,10 @@ use borrow.Author.Tests.{ltb-true, lt-ltb}
 use Rattle.cells.proofs.Cases.{same?, and-true}
 use Rattle.meaning.specs.Entries.{Entry, before}
 use Rattle.meaning.specs.Heap.{at, parent, exchange, early, rise}
-use Rattle.queue.specs.HeapOrder.{InOrder, MayRise}
-use Rattle.queue.proofs.Behind.{behind-trans, before-behind}
-use Rattle.queue.proofs.Positions.{parent-below}
-use Rattle.queue.proofs.Exchanges.{Exchanged, exchanged}
+use Rattle.heap.specs.HeapOrder.{InOrder, MayRise}
+use Rattle.heap.proofs.Behind.{behind-trans, before-behind}
+use Rattle.heap.proofs.Positions.{parent-below}
+use Rattle.heap.proofs.Exchanges.{Exchanged, exchanged}
 
 -- An entry that is early is not the root's, and is before its parent.
 pub early-true : (d p : ℕ) (h : List Entry) → early d p h ≡ true → (0 < p) × (before (at h p) (at h (parent d p)) ≡ true)

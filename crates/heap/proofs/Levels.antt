@@ -9,8 +9,8 @@ use Rattle.cells.proofs.Cases.{same?}
 use Rattle.places.proofs.Numbers.{div-mono}
 use Rattle.meaning.specs.Entries.{Entry}
 use Rattle.meaning.specs.Heap.{parent, child, steps, levels}
-use Rattle.queue.proofs.Children.{child-parent, child-below}
-use Rattle.queue.proofs.Permutes.{parent-atMost}
+use Rattle.heap.proofs.Children.{child-parent, child-below}
+use Rattle.heap.proofs.Permutes.{parent-atMost}
 
 -- At the top there is no step to make.
 pub steps-top : (d k : ℕ) → steps d k 0 ≡ 0

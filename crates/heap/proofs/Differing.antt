@@ -13,9 +13,9 @@ use borrow.Author.Tests.{eqb-false}
 use Rattle.cells.proofs.Cases.{same?}
 use Rattle.meaning.specs.Entries.{Entry}
 use Rattle.meaning.specs.Heap.{at, exchange, settle, heapPut, heapRemove, heapRekey}
-use Rattle.queue.specs.HeapOrder.{OrdersDiffer}
-use Rattle.queue.proofs.Exchanges.{Exchanged, exchanged, at-set, at-set-other, at-take, at-append, at-append-last}
-use Rattle.queue.proofs.Carrying.{rise-carries, settle-carries}
+use Rattle.heap.specs.HeapOrder.{OrdersDiffer}
+use Rattle.heap.proofs.Exchanges.{Exchanged, exchanged, at-set, at-set-other, at-take, at-append, at-append-last}
+use Rattle.heap.proofs.Carrying.{rise-carries, settle-carries}
 
 -- Two positions differ in g if those that they came from differ in h.
 from : (h g : List Entry) → OrdersDiffer h → (r s a b : ℕ) → at g r ≡ at h a → at g s ≡ at h b

@@ -8,10 +8,10 @@ use mathlib.Core.Path.{_≡_, refl}
 use lib.ListN.{length}
 use Rattle.meaning.specs.Entries.{Entry}
 use Rattle.meaning.specs.Heap.{parent, exchange, early, rise, earlier, child, sink, settle}
-use Rattle.queue.proofs.Positions.{parent-below}
-use Rattle.queue.proofs.Exchanges.{length-exchange}
-use Rattle.queue.proofs.Children.{earlier-true}
-use Rattle.queue.proofs.Rising.{early-true}
+use Rattle.heap.proofs.Positions.{parent-below}
+use Rattle.heap.proofs.Exchanges.{length-exchange}
+use Rattle.heap.proofs.Children.{earlier-true}
+use Rattle.heap.proofs.Rising.{early-true}
 
 module _ (P : List Entry → Type 0)
     (kept : (p q : ℕ) (h : List Entry) → p < length h → q < length h → P h → P (exchange p q h)) where

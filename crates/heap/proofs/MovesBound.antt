@@ -12,10 +12,10 @@ use Rattle.cells.proofs.Lists.{times-past, times-append}
 use Rattle.meaning.specs.Entries.{Entry, nobody}
 use Rattle.meaning.specs.Heap.{at, heapPut, heapRekey, heapMoves, levels}
 use Rattle.meaning.proofs.Handles.{ticketOf, map-append}
-use Rattle.queue.proofs.Levels.{steps-levels}
-use Rattle.queue.proofs.Paths.{risen, settled, Path, rise-along, settle-along, risen-steps, risen-above, risen-path, settled-path, settled-steps}
-use Rattle.queue.proofs.Displaced.{rise-same, settle-same}
-use Rattle.queue.proofs.Moves.{Differ, moved-still, moves-most, moves-exactly, displaced, displaced-rest, displaced-filled, along-counts}
+use Rattle.heap.proofs.Levels.{steps-levels}
+use Rattle.heap.proofs.Paths.{risen, settled, Path, rise-along, settle-along, risen-steps, risen-above, risen-path, settled-path, settled-steps}
+use Rattle.heap.proofs.Displaced.{rise-same, settle-same}
+use Rattle.heap.proofs.Moves.{Differ, moved-still, moves-most, moves-exactly, displaced, displaced-rest, displaced-filled, along-counts}
 
 -- The positions that a new entry rises to.
 abbrev pub putPath : ℕ → Entry → List Entry → List ℕ

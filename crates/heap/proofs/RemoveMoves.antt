@@ -14,11 +14,11 @@ use Rattle.cells.proofs.Distinct.{all-times}
 use Rattle.meaning.specs.Entries.{Entry, nobody}
 use Rattle.meaning.specs.Heap.{at, settle, heapRemove, heapMoves, levels}
 use Rattle.meaning.proofs.Handles.{ticketOf}
-use Rattle.queue.proofs.Permutes.{times-fill, times-remove}
-use Rattle.queue.proofs.Levels.{levels-order}
-use Rattle.queue.proofs.Paths.{settled, Path, settle-along, settled-path, settled-steps, below-wider}
-use Rattle.queue.proofs.Displaced.{settle-same, at-stands, one-position}
-use Rattle.queue.proofs.Moves.{Differ, moved, moved-still, moved-gone, moved-away, moves-most, moves-exactly, displaced-rest, along-counts}
+use Rattle.heap.proofs.Permutes.{times-fill, times-remove}
+use Rattle.heap.proofs.Levels.{levels-order}
+use Rattle.heap.proofs.Paths.{settled, Path, settle-along, settled-path, settled-steps, below-wider}
+use Rattle.heap.proofs.Displaced.{settle-same, at-stands, one-position}
+use Rattle.heap.proofs.Moves.{Differ, moved, moved-still, moved-gone, moved-away, moves-most, moves-exactly, displaced-rest, along-counts}
 
 -- The heap as its last entry fills the hole at p.
 abbrev pub refilled : ℕ → List Entry → List Entry

@@ -9,9 +9,9 @@ use lib.ListN.{length}
 use Rattle.cells.proofs.Cases.{same?}
 use Rattle.meaning.specs.Entries.{Entry, before}
 use Rattle.meaning.specs.Heap.{at, parent}
-use Rattle.queue.specs.HeapOrder.{InOrder, OrdersDiffer}
-use Rattle.queue.proofs.Behind.{behind-trans, behind-self, behind-before}
-use Rattle.queue.proofs.Positions.{parent-below}
+use Rattle.heap.specs.HeapOrder.{InOrder, OrdersDiffer}
+use Rattle.heap.proofs.Behind.{behind-trans, behind-self, behind-before}
+use Rattle.heap.proofs.Positions.{parent-below}
 
 -- No entry of a heap in order is before the root's.
 pub root-first : (d : ℕ) (h : List Entry) → InOrder d h → (p : ℕ) → p < length h → before (at h p) (at h 0) ≡ false

@@ -8,9 +8,9 @@ use lib.ListN.{length}
 use Rattle.cells.proofs.Cases.{test}
 use Rattle.meaning.specs.Entries.{Entry}
 use Rattle.meaning.specs.Heap.{parent, exchange, early, rise, earlier, child, sink}
-use Rattle.queue.proofs.Permutes.{parent-atMost, earlier-filled, early-above}
-use Rattle.queue.proofs.Children.{child-below}
-use Rattle.queue.proofs.Exchanges.{length-exchange}
+use Rattle.heap.proofs.Permutes.{parent-atMost, earlier-filled, early-above}
+use Rattle.heap.proofs.Children.{child-below}
+use Rattle.heap.proofs.Exchanges.{length-exchange}
 
 -- At the top nothing rises.
 pub rise-top : (d k p : ℕ) (h : List Entry) → p ≡ 0 → rise d k p h ≡ h

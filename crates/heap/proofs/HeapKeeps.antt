@@ -12,12 +12,12 @@ use lib.Seq.{length-take-le}
 use borrow.Author.Tests.{eqb-false}
 use Rattle.meaning.specs.Entries.{Entry, before}
 use Rattle.meaning.specs.Heap.{at, parent, settle, heapPut, heapRemove, heapRekey}
-use Rattle.queue.specs.HeapOrder.{InOrder, InOrderBut, MayRise}
-use Rattle.queue.proofs.Behind.{behind-trans}
-use Rattle.queue.proofs.Positions.{parent-below}
-use Rattle.queue.proofs.Exchanges.{at-set-other, at-take, at-append}
-use Rattle.queue.proofs.Rising.{rise-keeps}
-use Rattle.queue.proofs.Sinking.{settle-keeps}
+use Rattle.heap.specs.HeapOrder.{InOrder, InOrderBut, MayRise}
+use Rattle.heap.proofs.Behind.{behind-trans}
+use Rattle.heap.proofs.Positions.{parent-below}
+use Rattle.heap.proofs.Exchanges.{at-set-other, at-take, at-append}
+use Rattle.heap.proofs.Rising.{rise-keeps}
+use Rattle.heap.proofs.Sinking.{settle-keeps}
 
 -- The empty heap is in order.
 pub empty-in-order : (d : ℕ) → InOrder d []

@@ -11,9 +11,9 @@ use Rattle.cells.proofs.Lists.{times-here, times-past}
 use Rattle.cells.proofs.Distinct.{all-times}
 use Rattle.meaning.specs.Entries.{Entry}
 use Rattle.meaning.specs.Heap.{at, exchange, rise, sink, settle}
-use Rattle.queue.proofs.Permutes.{times-exchange}
-use Rattle.queue.proofs.Exchanges.{length-exchange, at-exchange-first, at-exchange-second, at-exchange-other}
-use Rattle.queue.proofs.Paths.{along, end, risen, sunk, settled, Path, rise-along, sink-along, settle-along, risen-path, sunk-path, settled-path}
+use Rattle.heap.proofs.Permutes.{times-exchange}
+use Rattle.heap.proofs.Exchanges.{length-exchange, at-exchange-first, at-exchange-second, at-exchange-other}
+use Rattle.heap.proofs.Paths.{along, end, risen, sunk, settled, Path, rise-along, sink-along, settle-along, risen-path, sunk-path, settled-path}
 
 -- Two heaps of one length have the same entries but at the positions of a list.
 pub record SameBut (ps : List ℕ) (h after : List Entry) : Type 0 where

@@ -1,0 +1,2 @@
+-- When a heap is in order.
+pub mod HeapOrder

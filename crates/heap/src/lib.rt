@@ -1,0 +1,1 @@
+// The heap in lent words.
