@@ -17,3 +17,10 @@ pub mod Moves
 pub mod MovesBound
 pub mod RemoveMoves
 pub mod StepBounds
+pub mod Seating
+pub mod Choosing
+pub mod Walks
+pub mod PublicWalks
+pub mod Frames
+pub mod SeatSteps
+pub mod SeatWalks

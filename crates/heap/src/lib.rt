@@ -1,1 +1,3 @@
-// The heap in lent words.
+// The d-ary heap in lent words.
+
+pub mod seats;

@@ -1,0 +1,103 @@
+-- No walk through lent words makes them more or fewer, or touches those past the last cell, whatever the words are.
+-- Assumes nothing.
+use Prim.Native.Nat.{ℕ, zero, suc, _+_, _-_, _*_, _/_}
+use mathlib.Core.List.{List}
+use mathlib.Core.Path.{_≡_, refl, _∙_}
+use lib.ListN.{length, drop}
+use lib.Dec.{eqb}
+use Rattle.cells.specs.Words.{word, putWord}
+use Rattle.cells.proofs.Places.{put-length, put-tail}
+use Rattle.meaning.specs.Heap.{parent}
+use Rattle.heap.specs.Seats.{
+  Walk,
+  seated,
+  seatAt,
+  firstChild,
+  mayRise,
+  riseWalk,
+  maySink,
+  sinkWalk,
+  settleWalk,
+  standing,
+  onceMore,
+  inReach,
+  enterWalk,
+  refillWalk,
+  vacateWalk,
+  countSelf,
+  resettleWalk,
+}
+use Rattle.heap.proofs.Permutes.{by-arms}
+use Rattle.heap.proofs.Seating.{seated-size, seated-tail}
+
+-- As many words, and the last L mod 8 untouched.
+pub record Framed (w v : List ℕ) : Type 0 where
+  pub size : length v ≡ length w
+  pub tail : drop (length w / 8 * 8) v ≡ drop (length w / 8 * 8) w
+
+pub framed-none : (w : List ℕ) → Framed w w
+framed-none w = record { size = refl; tail = refl }
+
+pub framed-on : (w v u : List ℕ) → Framed w v → Framed v u → Framed w u
+framed-on w v u a b = record { size = b .size ∙ a .size; tail = rw (a .size) at (b .tail) ∙ a .tail }
+
+pub framed-put : (w : List ℕ) (c f v : ℕ) → Framed w (putWord w c f v)
+framed-put w c f v = record { size = put-length w c f v; tail = put-tail w c f v }
+
+framed-seat : (w : List ℕ) (p c : ℕ) → Framed w (seated w p c)
+framed-seat w p c = record { size = seated-size w p c; tail = seated-tail w p c }
+
+module _ (d key order c : ℕ) where
+  rise-framed : (k p s : ℕ) (w : List ℕ) → Framed w (riseWalk d key order c k p s w .words)
+  unfolding riseWalk
+  rise-framed zero p s w = framed-seat w p c
+  rise-framed (suc k) p s w =
+      let e : ℕ = seatAt w (parent d p) .cell in
+      by-arms (λ (a : Walk). Framed w (a .words)) (mayRise d key order p w) _ _
+      (λ t. framed-on w (seated w p e) _ (framed-seat w p e) (rise-framed k (parent d p) (suc s) (seated w p e)))
+      (λ t. framed-seat w p c)
+
+  sink-framed : (n k p s : ℕ) (w : List ℕ) → Framed w (sinkWalk d n key order c k p s w .words)
+  unfolding sinkWalk
+  sink-framed n zero p s w = framed-seat w p c
+  sink-framed n (suc k) p s w =
+      let q = firstChild d n w (d * p + 1) in
+      by-arms (λ (a : Walk). Framed w (a .words)) (maySink d n key order p w) _ _
+      (λ t. framed-on w (seated w p (q .cell)) _ (framed-seat w p (q .cell)) (sink-framed n k (q .position) (suc s) (seated w p (q .cell))))
+      (λ t. framed-seat w p c)
+
+settle-framed : (d n p c : ℕ) (w : List ℕ) → Framed w (settleWalk d n p c w .words)
+unfolding settleWalk
+settle-framed d n p c w =
+    by-arms (λ (a : Walk). Framed w (a .words)) (mayRise d (word w c 2) (word w c 1) p w) _ _
+    (λ t. rise-framed d (word w c 2) (word w c 1) c p p 0 w)
+    (λ t. sink-framed d (word w c 2) (word w c 1) c n n p 0 w)
+
+pub enter-framed : (d n c : ℕ) (w : List ℕ) → Framed w (enterWalk d n c w .words)
+unfolding enterWalk standing
+enter-framed d n c w =
+    by-arms (λ (a : Walk). Framed w (a .words)) (inReach d (suc n) n) _ _
+    (λ t. rise-framed d (word w c 2) (word w c 1) c n n 0 w)
+    (λ t. framed-none w)
+
+pub vacate-framed : (d n p : ℕ) (w : List ℕ) → Framed w (vacateWalk d n p w .words)
+unfolding vacateWalk standing refillWalk onceMore
+vacate-framed d n p w =
+    by-arms (λ (a : Walk). Framed w (a .words)) (inReach d n p) _ _
+    (λ t.
+    by-arms (λ (a : Walk). Framed w (a .words)) (eqb p (n - 1)) _ _
+    (λ u. framed-put w p 6 0)
+    (λ u.
+    framed-on w (putWord w (n - 1) 6 0) _ (framed-put w (n - 1) 6 0)
+    (settle-framed d (n - 1) p (word w (n - 1) 6) (putWord w (n - 1) 6 0))))
+    (λ t. framed-none w)
+
+pub resettle-framed : (d n p c : ℕ) (w : List ℕ) → Framed w (resettleWalk d n p c w .words)
+unfolding resettleWalk standing countSelf onceMore
+resettle-framed d n p c w =
+    by-arms (λ (a : Walk). Framed w (a .words)) (inReach d n p) _ _
+    (λ t.
+    by-arms (λ (a : Walk). Framed w (a .words)) (eqb (settleWalk d n p c w .steps) 0) _ _
+    (λ u. settle-framed d n p c w)
+    (λ u. settle-framed d n p c w))
+    (λ t. framed-none w)
