@@ -41,6 +41,7 @@ use Rattle.queue.specs.Answers.{Told, told, refusal, handed}
 use Rattle.queue.specs.Cells.{foundIn}
 use Rattle.queue.specs.Promise.{Done}
 use Rattle.queue.specs.declared.head.Head.{Head}
+use Rattle.queue.proofs.Named.{Held}
 use Rattle.queue.proofs.Refused.{refused-moves, done-by, refused-done}
 use Rattle.queue.proofs.Facts.{Facts, facts, cells-all, cond-bit, valid-next}
 
@@ -318,14 +319,6 @@ module _ (h : Head) (w : List ℕ) (m : Model) (s : Shows h w m) where
       leave-done h w m s 0 (word w 0 6) l here a comes gone Take tt (handed (foundIn w (word w 0 6)))
       (rw (empty-some (m .heap) l, root-found l, here))
 
--- The handle (c, k) names the entry at the position that its cell knows.
-pub record Held (w : List ℕ) (m : Model) (c k : ℕ) : Type 0 where
-  pub filled : word w c 5 < length (m .heap)
-  pub cell : at (m .heap) (word w c 5) .cell ≡ c
-  pub ticket : at (m .heap) (word w c 5) .ticket ≡ k
-  pub seat : seatOf c k (m .heap) ≡ word w c 5
-  pub live : isNone (named c k (m .heap)) ≡ false
-
 module _ (h : Head) (w : List ℕ) (m : Model) (s : Shows h w m) (c k : ℕ) where
   -- Where the handle names nothing remove is refused.
   pub remove-stale : isNone (named c k (m .heap)) ≡ true → Done (Remove c k) m (refusal 7) h w
@@ -340,7 +333,8 @@ module _ (h : Head) (w : List ℕ) (m : Model) (s : Shows h w m) (c k : ℕ) whe
   unfolding step causes firstOf stale asPlain acceptedBy
   remove-done held a comes gone =
       let p : ℕ = word w c 5 in
-      let load : word w c 3 ≡ at (m .heap) p .load =
-      rw (held .cell) at (all-at (Carried w) (m .heap) p (held .filled) (s .entries) .load) in
-      leave-done h w m s p c (held .filled) (held .cell) a comes gone (Remove c k) tt (Load (word w c 3))
-      (rw (held .live, held .seat, load))
+      let filled : p < length (m .heap) = omega (arith, held .seat, held .known) in
+      let cell : at (m .heap) p .cell ≡ c = rw (held .known) (held .cell) in
+      let load : word w c 3 ≡ at (m .heap) p .load = rw cell at (all-at (Carried w) (m .heap) p filled (s .entries) .load) in
+      leave-done h w m s p c filled cell a comes gone (Remove c k) tt (Load (word w c 3))
+      (rw (held .live, ← (held .known), load))

@@ -7,3 +7,17 @@ pub mod Refused
 pub mod Carries
 pub mod PutShown
 pub mod LeaveShown
+pub mod Named
+pub mod RekeyShown
+pub mod SetUpCases
+pub mod SetUpShown
+pub mod Promised
+pub mod ByPosition
+pub mod Arranged
+pub mod ShownFacts
+pub mod Masks
+pub mod ShownSound
+pub mod SoundShown
+pub mod OneModel
+pub mod AuditSteps
+pub mod Audits

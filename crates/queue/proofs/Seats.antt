@@ -129,7 +129,7 @@ unfolding named names
 named-head e es = rw (eq-eqb (e .cell) (e .cell) refl, eq-eqb (e .ticket) (e .ticket) refl)
 
 -- A handle with an entry's cell and ticket names it.
-names-by : (c k : ℕ) (e : Entry) → e .cell ≡ c → e .ticket ≡ k → names c k e ≡ true
+pub names-by : (c k : ℕ) (e : Entry) → e .cell ≡ c → e .ticket ≡ k → names c k e ≡ true
 unfolding names
 names-by c k e p q = rw (eq-eqb (e .cell) c p, eq-eqb (e .ticket) k q)
 

@@ -6,3 +6,5 @@ pub mod Answers
 pub mod Promise
 pub mod Cells
 pub mod Rules
+pub mod SetUps
+pub mod AuditTests

@@ -1,3 +1,6 @@
 // The ready queue: a d-ary heap with handles over the cell store.
 
+pub mod audit;
 pub mod head;
+pub mod in_place;
+pub mod setup;

@@ -1,0 +1,158 @@
+-- Head and words show one model at most, and a model is shown by one head and one memory only.
+-- Assumes nothing.
+use Prim.Native.Nat.{ℕ, zero, suc, _*_, _/_, _≤_, _<_}
+use native.Mathlib.Omega.{arith}
+use mathlib.Core.List.{List, [], _∷_}
+use mathlib.Core.Path.{_≡_, sym, ap, _∙_}
+use lib.ListN.{length, drop}
+use Rattle.cells.specs.Lists.{All, times}
+use Rattle.cells.specs.Words.{word}
+use Rattle.cells.specs.Stack.{Chain, link}
+use Rattle.cells.proofs.Cases.{same?, atMost?}
+use Rattle.cells.proofs.Chains.{chain-same}
+use Rattle.cells.proofs.Distinct.{all-times}
+use Rattle.cells.proofs.Places.{words-ext}
+use Rattle.meaning.specs.Entries.{Entry}
+use Rattle.meaning.specs.Heap.{at}
+use Rattle.queue.specs.Model.{Model}
+use Rattle.queue.specs.Shows.{Carried, Shows}
+use Rattle.queue.specs.declared.head.Head.{Head}
+use Rattle.queue.proofs.ByPosition.{heap-ext}
+use Rattle.queue.proofs.Seats.{entry-same}
+use Rattle.queue.proofs.ShownFacts.{free-cells, cell-either, carried-at}
+
+-- A model of its parts.
+abbrev modelOf : (arity : ℕ) (heap : List Entry) (counter cells : ℕ) (free : List ℕ) → Model
+modelOf arity heap counter cells free = record { arity = arity; heap = heap; counter = counter; cells = cells; free = free }
+
+-- A head of its numbers.
+abbrev headOf : (arity count cells free counter : ℕ) → Head
+headOf arity count cells free counter =
+    record { arity = arity; count = count; store = record { cells = cells; free = free; counter = counter } }
+
+-- Two models with the same parts are one.
+model-same : (m m′ : Model) → m .arity ≡ m′ .arity → m .heap ≡ m′ .heap → m .counter ≡ m′ .counter → m .cells ≡ m′ .cells → m .free ≡ m′ .free → m ≡ m′
+model-same m m′ a b c d e =
+    let whole : modelOf (m .arity) (m .heap) (m .counter) (m .cells) (m .free)
+    ≡ modelOf (m′ .arity) (m′ .heap) (m′ .counter) (m′ .cells) (m′ .free) = cc in
+    whole
+
+-- Two heads with the same numbers are one.
+head-same : (h h′ : Head) → h .arity ≡ h′ .arity → h .count ≡ h′ .count → h .store .cells ≡ h′ .store .cells → h .store .free ≡ h′ .store .free
+    → h .store .counter ≡ h′ .store .counter → h ≡ h′
+head-same h h′ a b c d e =
+    let whole : headOf (h .arity) (h .count) (h .store .cells) (h .store .free) (h .store .counter)
+    ≡ headOf (h′ .arity) (h′ .count) (h′ .store .cells) (h′ .store .free) (h′ .store .counter) = cc in
+    whole
+
+-- One cell carries one entry only.
+carried-one : (w : List ℕ) (x y : Entry) → x .cell ≡ y .cell → Carried w x → Carried w y → x ≡ y
+carried-one w x y e a b =
+    let at-y : (f : ℕ) → word w (x .cell) f ≡ word w (y .cell) f = λ f. ap (λ (c : ℕ). word w c f) e in
+    entry-same x y
+    (sym (a .key) ∙ at-y 2 ∙ b .key)
+    (sym (a .order) ∙ at-y 1 ∙ b .order)
+    e
+    (sym (a .ticket) ∙ at-y 0 ∙ b .ticket)
+    (sym (a .load) ∙ at-y 3 ∙ b .load)
+
+-- Head and words show one model at most.
+pub one-model : (h : Head) (w : List ℕ) (m m′ : Model) → Shows h w m → Shows h w m′ → m ≡ m′
+one-model h w m m′ s s′ =
+    model-same m m′
+    (sym (s .arity) ∙ s′ .arity)
+    (heap-ext (m .heap) (m′ .heap) long each)
+    (sym (s .counter) ∙ s′ .counter)
+    (sym (s .cells) ∙ s′ .cells)
+    (chain-same (link w) (h .store .free) (m .free) (m′ .free) (s .free) (s′ .free) (free-cells m (s .valid)) (free-cells m′ (s′ .valid)))
+  where
+    long : length (m .heap) ≡ length (m′ .heap)
+    long = sym (s .count) ∙ s′ .count
+
+    each : (p : ℕ) → p < length (m .heap) → at (m .heap) p ≡ at (m′ .heap) p
+    each p l =
+        let k : p < length (m′ .heap) = omega (arith, long) in
+        carried-one w (at (m .heap) p) (at (m′ .heap) p) (sym (s .seats .table p l) ∙ s′ .seats .table p k)
+        (carried-at h w m s p l) (carried-at h w m′ s′ p k)
+
+-- Links through the same cells start at the same cell.
+chain-tops : (next next′ : ℕ → ℕ) (a a′ : ℕ) (cs : List ℕ) → Chain next a cs → Chain next′ a′ cs → a ≡ a′
+chain-tops next next′ a a′ [] h k = h ∙ sym k
+chain-tops next next′ a a′ (c ∷ cs) h k = h .0 ∙ sym (k .0)
+
+-- They are the same links.
+chain-alike : (next next′ : ℕ → ℕ) (a a′ : ℕ) (cs : List ℕ) → Chain next a cs → Chain next′ a′ cs → All (λ (c : ℕ). next c ≡ next′ c) cs
+chain-alike next next′ a a′ [] h k = tt
+chain-alike next next′ a a′ (c ∷ cs) h k =
+    (chain-tops next next′ (next c) (next′ c) cs (h .1) (k .1), chain-alike next next′ (next c) (next′ c) cs (h .1) (k .1))
+
+-- What holds of each of the eight fields holds of every field.
+each-field : (P : ℕ → Type 0) → P 0 → P 1 → P 2 → P 3 → P 4 → P 5 → P 6 → P 7 → (f : ℕ) → f < 8 → P f
+each-field P a b c d e g i j zero l = a
+each-field P a b c d e g i j (suc zero) l = b
+each-field P a b c d e g i j (suc (suc zero)) l = c
+each-field P a b c d e g i j (suc (suc (suc zero))) l = d
+each-field P a b c d e g i j (suc (suc (suc (suc zero)))) l = e
+each-field P a b c d e g i j (suc (suc (suc (suc (suc zero))))) l = g
+each-field P a b c d e g i j (suc (suc (suc (suc (suc (suc zero)))))) l = i
+each-field P a b c d e g i j (suc (suc (suc (suc (suc (suc (suc zero))))))) l = j
+each-field P a b c d e g i j (suc (suc (suc (suc (suc (suc (suc (suc f)))))))) l = absurd (omega arith)
+
+module _ (h h′ : Head) (w w′ : List ℕ) (m : Model) (s : Shows h w m) (s′ : Shows h′ w′ m) where
+  -- The head is one.
+  one-head : h ≡ h′
+  one-head =
+      head-same h h′
+      (s .arity ∙ sym (s′ .arity))
+      (s .count ∙ sym (s′ .count))
+      (s .cells ∙ sym (s′ .cells))
+      (chain-tops (link w) (link w′) (h .store .free) (h′ .store .free) (m .free) (s .free) (s′ .free))
+      (s .counter ∙ sym (s′ .counter))
+
+  -- The position table is one.
+  same-table : (p : ℕ) → word w p 6 ≡ word w′ p 6
+  same-table p =
+      atMost? (length (m .heap)) p
+      (λ l. s .beyond p l ∙ sym (s′ .beyond p l))
+      (λ l. s .seats .table p l ∙ sym (s′ .seats .table p l))
+
+  -- So are the words of an entry's cell.
+  same-entry : (p : ℕ) → p < length (m .heap) → (f : ℕ) → f < 8 → word w (at (m .heap) p .cell) f ≡ word w′ (at (m .heap) p .cell) f
+  same-entry p l f k =
+      let a = carried-at h w m s p l in
+      let b = carried-at h′ w′ m s′ p l in
+      let c : ℕ = at (m .heap) p .cell in
+      each-field (λ (g : ℕ). word w c g ≡ word w′ c g)
+      (a .ticket ∙ sym (b .ticket))
+      (a .order ∙ sym (b .order))
+      (a .key ∙ sym (b .key))
+      (a .load ∙ sym (b .load))
+      (a .unlinked ∙ sym (b .unlinked))
+      (s .seats .place p l ∙ sym (s′ .seats .place p l))
+      (same-table c)
+      (a .unused ∙ sym (b .unused))
+      f k
+
+  -- So are those of a free cell.
+  same-free : (c : ℕ) → 1 ≤ times c (m .free) → (f : ℕ) → word w c f ≡ word w′ c f
+  same-free c k f =
+      same? f 4
+      (λ e. rw e
+      (all-times (λ (c : ℕ). link w c ≡ link w′ c) (m .free)
+      (chain-alike (link w) (link w′) (h .store .free) (h′ .store .free) (m .free) (s .free) (s′ .free)) c k))
+      (λ n. same? f 6
+      (λ e. rw e (same-table c))
+      (λ t. s .blank c f k n t ∙ sym (s′ .blank c f k n t)))
+
+  -- So is every word of every cell.
+  same-word : (c f : ℕ) → c < length w / 8 → f < 8 → word w c f ≡ word w′ c f
+  same-word c f l k =
+      cell-either m (s .valid) c (omega (arith, s .size))
+      (λ p i e z. rw e at (same-entry p i f k))
+      (λ z. same-free c (omega arith) f)
+
+-- A model is shown by one head only, and by one memory of each length, but for the words past the cells.
+pub one-memory : (h h′ : Head) (w w′ : List ℕ) (m : Model) → Shows h w m → Shows h′ w′ m → length w ≡ length w′
+    → drop (length w / 8 * 8) w ≡ drop (length w / 8 * 8) w′
+    → (h ≡ h′) × (w ≡ w′)
+one-memory h h′ w w′ m s s′ long past = (one-head h h′ w w′ m s s′, words-ext w w′ long (same-word h h′ w w′ m s s′) past)

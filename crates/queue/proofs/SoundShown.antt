@@ -1,0 +1,309 @@
+-- Head and words that keep to every rule of the audit show a model: the one that is read off them.
+-- Assumes nothing.
+use Prim.Native.Nat.{ℕ, zero, suc, _+_, _≤_, _<_}
+use native.Mathlib.Omega.{arith}
+use mathlib.Core.Bool.{true, false, cond}
+use mathlib.Core.List.{List, [], _∷_, map}
+use mathlib.Core.Logic.{_≢_, _↔_}
+use mathlib.Core.Path.{_≡_, refl, sym, ap, _∙_}
+use lib.Dec.{ltb}
+use lib.ListN.{length}
+use borrow.Author.Tests.{lt-ltb, le-ltb}
+use Rattle.cells.specs.Lists.{All, times}
+use Rattle.cells.specs.Words.{word}
+use Rattle.cells.specs.Stack.{isFree}
+use Rattle.cells.specs.Rules.{inUse, CellRule}
+use Rattle.cells.proofs.Cases.{test, same?, atMost?, clash}
+use Rattle.cells.proofs.Memory.{word-no-field, word-no-cell}
+use Rattle.meaning.specs.Entries.{Entry, before}
+use Rattle.meaning.specs.Plain.{Plain}
+use Rattle.meaning.specs.Kept.{Numbered, Kept}
+use Rattle.meaning.specs.Heap.{at, parent}
+use Rattle.heap.specs.HeapOrder.{InOrder}
+use Rattle.heap.specs.Seats.{seatAt}
+use Rattle.heap.specs.Stands.{Stands, cellsOf}
+use Rattle.heap.proofs.Displaced.{at-stands}
+use Rattle.heap.proofs.Positions.{parent-below}
+use Rattle.queue.specs.Model.{Model}
+use Rattle.queue.specs.Means.{Means}
+use Rattle.queue.specs.Shows.{Carried, Shows}
+use Rattle.queue.specs.Rules.{usedMask, freeMask, QueueSound}
+use Rattle.queue.specs.declared.head.Head.{Head}
+use Rattle.queue.proofs.Arranged.{arranged, arranged-same, arranged-all, arranged-ordered}
+use Rattle.queue.proofs.ByPosition.{at-all, stands-at, once-each}
+use Rattle.queue.proofs.Masks.{used-link, used-last, free-others}
+use Rattle.queue.proofs.ShownFacts.{ticket-used, in-use-free, free-not-used, not-free-used}
+use Rattle.queue.proofs.ShownSound.{rank-before, shown-sound}
+
+-- The entry in a cell.
+unfoldable pub entryIn : List ℕ → ℕ → Entry
+entryIn w c = record { key = word w c 2; order = word w c 1; cell = c; ticket = word w c 0; load = word w c 3 }
+
+-- The entries at k positions from p on.
+unfoldable pub heapRead : List ℕ → ℕ → ℕ → List Entry
+heapRead w p zero = []
+heapRead w p (suc k) = entryIn w (word w p 6) ∷ heapRead w (suc p) k
+
+-- There are k of them.
+pub read-length : (w : List ℕ) (p k : ℕ) → length (heapRead w p k) ≡ k
+unfolding heapRead
+read-length w p zero = refl
+read-length w p (suc k) = ap suc (read-length w (suc p) k)
+
+-- Each is that in the cell which the table has there.
+pub read-at : (w : List ℕ) (p k i : ℕ) → i < k → at (heapRead w p k) i ≡ entryIn w (word w (p + i) 6)
+unfolding heapRead at
+read-at w p zero i l = absurd (omega arith)
+read-at w p (suc k) zero l = ap (λ (q : ℕ). entryIn w (word w q 6)) (omega arith)
+read-at w p (suc k) (suc i) l =
+    read-at w (suc p) k i (omega arith) ∙ ap (λ (q : ℕ). entryIn w (word w q 6)) (omega arith)
+
+-- The model that is read off head and words with a stack of free cells.
+unfoldable pub modelRead : Head → List ℕ → List ℕ → Model
+modelRead h w free =
+    record { arity = h .arity; heap = heapRead w 0 (h .count); counter = h .store .counter; cells = h .store .cells; free = free }
+
+-- The plain list that it means: the same entries in their order.
+unfoldable pub plainRead : Head → List ℕ → List ℕ → Plain
+plainRead h w free =
+    record {
+      entries = arranged (heapRead w 0 (h .count));
+      clock = 0;
+      counter = h .store .counter;
+      cells = h .store .cells;
+      free = free;
+    }
+
+module _ (h : Head) (w : List ℕ) (r : QueueSound w h) where
+  -- The heap that is read.
+  abbrev heap : List Entry
+  heap = heapRead w 0 (h .count)
+
+  -- The cells of the free stack.
+  abbrev free : List ℕ
+  free = r .shared .stack .cells
+
+  -- It has as many entries as the head says.
+  filled : length heap ≡ h .count
+  filled = read-length w 0 (h .count)
+
+  -- The entry at a position.
+  here : (p : ℕ) → p < h .count → at heap p ≡ entryIn w (word w p 6)
+  here p l = read-at w 0 (h .count) p l ∙ ap (λ (q : ℕ). entryIn w (word w q 6)) (omega arith)
+
+  -- Its cell is the table's.
+  cell-here : (p : ℕ) → p < h .count → at heap p .cell ≡ word w p 6
+  unfolding entryIn
+  cell-here p l = ap (λ (e : Entry). e .cell) (here p l)
+
+  -- The rules of its cell.
+  rule-here : (p : ℕ) → p < h .count → CellRule w (h .store .counter) usedMask freeMask (word w p 6)
+  rule-here p l = r .shared .cell (word w p 6) (r .seats p l .inside)
+
+  -- Two positions with one cell are one.
+  cells-apart : (p q : ℕ) → p < h .count → q < h .count → word w p 6 ≡ word w q 6 → p ≡ q
+  cells-apart p q i j e = sym (r .seats p i .known) ∙ ap (λ (c : ℕ). word w c 5) e ∙ r .seats q j .known
+
+  -- Each entry is carried by its cell.
+  carried : All (Carried w) heap
+  unfolding entryIn
+  carried = at-all (Carried w) heap each
+    where
+      each : (p : ℕ) → p < length heap → Carried w (at heap p)
+      each p i =
+          let l : p < h .count = omega (arith, filled) in
+          let used = r .seats p l .used in
+          rw (here p l)
+          (record {
+            ticket = refl;
+            order = refl;
+            key = refl;
+            load = refl;
+            unlinked = rule-here p l .blank 4 (omega arith) (rw used used-link);
+            unused = rule-here p l .blank 7 (omega arith) (rw used used-last);
+          })
+
+  -- Each entry has its numbers below the counter.
+  numbered : All (Numbered (h .store .counter)) heap
+  unfolding entryIn
+  numbered = at-all (Numbered (h .store .counter)) heap each
+    where
+      each : (p : ℕ) → p < length heap → Numbered (h .store .counter) (at heap p)
+      each p i =
+          let l : p < h .count = omega (arith, filled) in
+          let used = r .seats p l .used in
+          rw (here p l)
+          (record {
+            some = ticket-used w (word w p 6) used;
+            rising = rule-here p l .ticket used;
+            taken = rule-here p l .order used;
+          })
+
+  -- Numbers of entries that differ by cell stand once each.
+  once : (g : Entry → ℕ) → ((p q : ℕ) → p < h .count → q < h .count → g (at heap p) ≡ g (at heap q) → word w p 6 ≡ word w q 6)
+      → (k : ℕ) → times k (map g heap) ≤ 1
+  once g apart =
+      once-each g heap
+      (λ p q i j e.
+      let l : p < h .count = omega (arith, filled) in
+      let k : q < h .count = omega (arith, filled) in
+      cells-apart p q l k (apart p q l k e))
+
+  -- Tickets differ.
+  tickets-once : (k : ℕ) → times k (map (λ (e : Entry). e .ticket) heap) ≤ 1
+  unfolding entryIn
+  tickets-once =
+      once (λ (e : Entry). e .ticket)
+      (λ p q i j e.
+      r .shared .tickets (word w p 6) (word w q 6) (r .seats p i .inside) (r .seats q j .inside) (r .seats p i .used) (r .seats q j .used)
+      (rw (here p i, here q j) at e))
+
+  -- Order numbers differ.
+  orders-once : (k : ℕ) → times k (map (λ (e : Entry). e .order) heap) ≤ 1
+  unfolding entryIn
+  orders-once =
+      once (λ (e : Entry). e .order)
+      (λ p q i j e.
+      r .shared .orders (word w p 6) (word w q 6) (r .seats p i .inside) (r .seats q j .inside) (r .seats p i .used) (r .seats q j .used)
+      (rw (here p i, here q j) at e))
+
+  -- Each cell is one entry's at most.
+  cells-once : (k : ℕ) → times k (cellsOf heap) ≤ 1
+  cells-once = once (λ (e : Entry). e .cell) (λ p q i j e. sym (cell-here p i) ∙ e ∙ cell-here q j)
+
+  -- A cell that is not in use below N is no entry's.
+  no-entry : (c : ℕ) → (c < h .store .cells → inUse w c ≡ true → ⊥) → times c (cellsOf heap) ≡ 0
+  no-entry c n =
+      same? (times c (cellsOf heap)) 0 (λ z. z)
+      (λ k.
+      stands-at (λ (e : Entry). e .cell) c heap (omega arith)
+      (λ p i e.
+      let l : p < h .count = omega (arith, filled) in
+      let q : word w p 6 ≡ c = sym (cell-here p l) ∙ e in
+      absurd (n (rw q at (r .seats p l .inside)) (rw q at (r .seats p l .used)))))
+
+  -- A cell that is in use is one entry's.
+  one-entry : (c : ℕ) → c < h .store .cells → inUse w c ≡ true → times c (cellsOf heap) ≡ 1
+  one-entry c l u =
+      let p : ℕ = word w c 5 in
+      let k : p < h .count = r .placed c l u in
+      let q : at heap p .cell ≡ c = cell-here p k ∙ r .found c l u in
+      omega (arith, cells-once c, rw q at (at-stands (λ (e : Entry). e .cell) heap p (omega (arith, filled))))
+
+  -- Free cells and cells in use are together 0 to N - 1, once each.
+  cells-count : (c : ℕ) → times c (cellsOf heap) + times c free ≡ cond (ltb c (h .store .cells)) 1 0
+  cells-count c =
+      let stack = r .shared .stack .once c in
+      atMost? (h .store .cells) c
+      (λ l.
+      let past = le-ltb c (h .store .cells) l in
+      rw past (omega (arith, rw past at stack, no-entry c (λ k u. omega arith))))
+      (λ l.
+      let below = lt-ltb c (h .store .cells) l in
+      rw below
+      (test (isFree w c)
+      (λ t. omega (arith, rw (below, t) at stack, no-entry c (λ k u. clash t (in-use-free w c u))))
+      (λ t. omega (arith, rw (below, t) at stack, one-entry c l (not-free-used w c t)))))
+
+  -- The heap is in order.
+  in-order : InOrder (h .arity) heap
+  unfolding entryIn seatAt
+  in-order = record { behind = each }
+    where
+      each : (p : ℕ) → 0 < p → p < length heap → before (at heap p) (at heap (parent (h .arity) p)) ≡ false
+      each p z i =
+          let q : ℕ = parent (h .arity) p in
+          let l : p < h .count = omega (arith, filled) in
+          let k : q < h .count = omega (arith, parent-below (h .arity) p z) in
+          rw (here p l, here q k)
+          (sym (rank-before w p q (entryIn w (word w p 6)) (entryIn w (word w q 6)) refl refl refl refl)
+          ∙ r .seats p l .behind z)
+
+  -- The plain list keeps to the rules.
+  read-kept : h .store .counter ≤ 18446744073709551615 → Kept (plainRead h w free)
+  unfolding plainRead
+  read-kept small =
+      let same = arranged-same heap in
+      record {
+        ordered = arranged-ordered heap orders-once;
+        cells = λ c. omega (arith, same (λ (e : Entry). e .cell) c, cells-count c);
+        numbered = arranged-all (Numbered (h .store .counter)) heap numbered;
+        tickets = λ k. omega (arith, same (λ (e : Entry). e .ticket) k, tickets-once k);
+        orders = λ k. omega (arith, same (λ (e : Entry). e .order) k, orders-once k);
+        counted = r .shared .counted;
+        counts = small;
+        sized = r .shared .some;
+        fits = r .shared .most;
+      }
+
+  -- The model means it.
+  read-means : Means (modelRead h w free) (plainRead h w free)
+  unfolding modelRead plainRead
+  read-means = record {
+    some = r .some;
+    most = r .most;
+    ordered = in-order;
+    entries = arranged-same heap;
+    counter = refl;
+    cells = refl;
+    free = refl;
+  }
+
+  -- The words of a free cell, but for its link and the position table's.
+  free-blank : (c f : ℕ) → 1 ≤ times c free → f ≢ 4 → f ≢ 6 → word w c f ≡ 0
+  free-blank c f k n t =
+      let stack = r .shared .stack .once c in
+      atMost? 8 f
+      (λ l. word-no-field w c f l)
+      (λ l.
+      atMost? (h .store .cells) c
+      (λ i. absurd (omega (arith, rw (le-ltb c (h .store .cells) i) at stack)))
+      (λ i.
+      test (isFree w c)
+      (λ e. r .shared .cell c i .blank f l (rw (free-not-used w c e) (free-others f l n t)))
+      (λ e. absurd (omega (arith, rw (lt-ltb c (h .store .cells) i, e) at stack)))))
+
+  -- The heap stands in the words.
+  read-stands : Stands w heap
+  read-stands = record {
+    table = λ p i. sym (cell-here p (omega (arith, filled)));
+    place = λ p i. let l : p < h .count = omega (arith, filled) in rw (cell-here p l) (r .seats p l .known);
+  }
+
+  -- From position n up the table is zero.
+  read-beyond : (p : ℕ) → length heap ≤ p → word w p 6 ≡ 0
+  read-beyond p i =
+      atMost? (h .store .cells) p
+      (λ k. word-no-cell w p 6 (omega (arith, r .shared .size)))
+      (λ k. r .beyond p (omega (arith, filled)) k)
+
+-- A model that head and words show.
+pub record Shown (h : Head) (w : List ℕ) : Type 0 where
+  pub model : Model
+  pub shows : Shows h w model
+
+-- What is sound shows a model, if the counter is a 64-bit number.
+pub sound-shown : (h : Head) (w : List ℕ) → h .store .counter ≤ 18446744073709551615 → QueueSound w h → Shown h w
+unfolding modelRead
+sound-shown h w small r =
+    record {
+      model = modelRead h w (free h w r);
+      shows =
+          record {
+            arity = refl;
+            count = sym (filled h w r);
+            cells = refl;
+            counter = refl;
+            size = r .shared .size;
+            free = r .shared .stack .linked;
+            blank = free-blank h w r;
+            entries = carried h w r;
+            seats = read-stands h w r;
+            beyond = read-beyond h w r;
+            valid = record { list = plainRead h w (free h w r); means = read-means h w r; kept = read-kept h w r small };
+          };
+    }
+
+-- The audit's rules hold exactly if head and words show some model.
+pub sound-exactly : (h : Head) (w : List ℕ) → h .store .counter ≤ 18446744073709551615 → QueueSound w h ↔ Shown h w
+sound-exactly h w small = (sound-shown h w small, λ s. shown-sound h w (s .model) (s .shows))

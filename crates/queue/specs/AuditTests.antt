@@ -1,0 +1,56 @@
+-- The tests by which the queue's audit decides its rules; that they do is proved in `proofs/Audits.antt`.
+-- Assumes nothing.
+use Prim.Native.Nat.{ℕ}
+use mathlib.Core.Bool.{Bool, not, _&&_, _||_}
+use mathlib.Core.List.{List}
+use lib.Dec.{leb, ltb, eqb}
+use lib.ListN.{length}
+use Rattle.cells.specs.Words.{word}
+use Rattle.cells.specs.Stack.{isFree, stackTest}
+use Rattle.cells.specs.AuditTests.{allBelow, cellTest, usedBelow, sizeTest, differTest}
+use Rattle.cells.specs.declared.store.Store.{Store}
+use Rattle.meaning.specs.Heap.{parent}
+use Rattle.heap.specs.Seats.{ranked, seatAt}
+use Rattle.queue.specs.Rules.{usedMask, freeMask}
+use Rattle.queue.specs.declared.head.Head.{Head}
+
+-- The rules that every engine shares, all of them.
+unfoldable pub sharedTest : List ℕ → Store → ℕ → ℕ → Bool
+sharedTest w s used free =
+    sizeTest (length w) s
+    && (allBelow (s .cells) (cellTest w (s .counter) used free)
+    && (stackTest w (s .cells) (s .free) && differTest w (usedBelow w (s .cells))))
+
+-- "arity 2 to 8", and no more positions than cells
+unfoldable pub headTest : Head → Bool
+headTest h = leb 2 (h .arity) && (leb (h .arity) 8 && leb (h .count) (h .store .cells))
+
+-- "none is before its parent": of position p in a heap with arity d
+unfoldable pub behindTest : List ℕ → ℕ → ℕ → Bool
+behindTest w d p =
+    eqb p 0 || not (ranked (seatAt w p .key) (seatAt w p .order) (seatAt w (parent d p) .key) (seatAt w (parent d p) .order))
+
+-- A filled position p holds a cell in use of the first n, which knows that position.
+unfoldable pub seatTest : List ℕ → ℕ → ℕ → ℕ → Bool
+seatTest w d n p =
+    ltb (word w p 6) n
+    && (not (isFree w (word w p 6)) && (eqb (word w (word w p 6) 5) p && behindTest w d p))
+
+-- "each entry stands at one heap position": a cell c in use knows one of the filled positions, and stands there.
+unfoldable pub placedTest : List ℕ → ℕ → ℕ → Bool
+placedTest w count c = isFree w c || (ltb (word w c 5) count && eqb (word w (word w c 5) 6) c)
+
+-- "from position n up it is zero"
+unfoldable pub beyondTest : List ℕ → ℕ → ℕ → Bool
+beyondTest w count p = ltb p count || eqb (word w p 6) 0
+
+-- Both of the words of one cell.
+unfoldable pub tableTest : List ℕ → ℕ → ℕ → Bool
+tableTest w count c = placedTest w count c && beyondTest w count c
+
+-- All that the audit tests.
+unfoldable pub auditTest : List ℕ → Head → Bool
+auditTest w h =
+    headTest h
+    && (sharedTest w (h .store) usedMask freeMask
+    && (allBelow (h .count) (seatTest w (h .arity) (h .store .cells)) && allBelow (h .store .cells) (tableTest w (h .count))))
