@@ -112,16 +112,17 @@ module _ (w : List ℕ) where
 -- The head, by the first that is wrong.
 module _ (h : Head) where
   -- With a right arity the count decides.
-  pub head-count : 2 ≤ h .arity → h .arity ≤ 8 → leb (h .count) (h .store .cells) ≡ headTest h
+  pub head-count : h .store .counter ≤ 18446744073709551615 → 2 ≤ h .arity → h .arity ≤ 8 → leb (h .count) (h .store .cells) ≡ headTest h
   unfolding headTest
-  head-count l k = rw (le-leb 2 (h .arity) l, le-leb (h .arity) 8 k)
+  head-count z l k = rw (le-leb _ _ z, le-leb 2 (h .arity) l, le-leb (h .arity) 8 k)
 
   -- The arity is above 8.
   pub head-wide : 8 < h .arity → false ≡ headTest h
   unfolding headTest
-  head-wide l = rw (lt-leb (h .arity) 8 l) (sym (and-false (leb 2 (h .arity))))
+  head-wide l =
+      rw (lt-leb (h .arity) 8 l, and-false (leb 2 (h .arity))) (sym (and-false (leb (h .store .counter) 18446744073709551615)))
 
   -- The arity is below 2.
   pub head-narrow : h .arity < 2 → false ≡ headTest h
   unfolding headTest
-  head-narrow l = rw (lt-leb 2 (h .arity) l)
+  head-narrow l = rw (lt-leb 2 (h .arity) l) (sym (and-false (leb (h .store .counter) 18446744073709551615)))

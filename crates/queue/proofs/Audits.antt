@@ -68,6 +68,7 @@ shared-decides w s used free = (to, from)
 
 -- What the head's test finds.
 pub record HeadRule (h : Head) : Type 0 where
+  pub counts : h .store .counter ≤ 18446744073709551615
   pub some : 2 ≤ h .arity
   pub most : h .arity ≤ 8
   pub fits : h .count ≤ h .store .cells
@@ -76,15 +77,17 @@ pub record HeadRule (h : Head) : Type 0 where
 pub head-rule : (h : Head) → headTest h ≡ true → HeadRule h
 unfolding headTest
 head-rule h t =
-    let one = and-true (leb 2 (h .arity)) (leb (h .arity) 8 && leb (h .count) (h .store .cells)) t in
+    let zeroth =
+    and-true (leb (h .store .counter) 18446744073709551615) (leb 2 (h .arity) && (leb (h .arity) 8 && leb (h .count) (h .store .cells))) t in
+    let one = and-true (leb 2 (h .arity)) (leb (h .arity) 8 && leb (h .count) (h .store .cells)) (zeroth .1) in
     let two = and-true (leb (h .arity) 8) (leb (h .count) (h .store .cells)) (one .1) in
-    record { some = leb-true _ _ (one .0); most = leb-true _ _ (two .0); fits = leb-true _ _ (two .1) }
+    record { counts = leb-true _ _ (zeroth .0); some = leb-true _ _ (one .0); most = leb-true _ _ (two .0); fits = leb-true _ _ (two .1) }
 
 -- The head that keeps its rules passes.
 rule-head : (h : Head) → HeadRule h → headTest h ≡ true
 unfolding headTest
 rule-head h r =
-    rw (le-leb 2 (h .arity) (r .some), le-leb (h .arity) 8 (r .most), le-leb (h .count) (h .store .cells) (r .fits))
+    rw (le-leb _ _ (r .counts), le-leb 2 (h .arity) (r .some), le-leb (h .arity) 8 (r .most), le-leb (h .count) (h .store .cells) (r .fits))
 
 module _ (w : List ℕ) where
   -- The order test of one position.
@@ -172,7 +175,7 @@ module _ (w : List ℕ) (h : Head) where
 
   -- A sound head passes.
   sound-head : QueueSound w h → headTest h ≡ true
-  sound-head q = rule-head h (record { some = q .some; most = q .most; fits = q .fits })
+  sound-head q = rule-head h (record { counts = q .counts; some = q .some; most = q .most; fits = q .fits })
 
   -- Its positions pass.
   sound-seats : QueueSound w h → seatsTest ≡ true
@@ -194,6 +197,7 @@ module _ (w : List ℕ) (h : Head) where
       let head : HeadRule h = head-rule h a in
       record {
         shared = s;
+        counts = head .counts;
         some = head .some;
         most = head .most;
         fits = head .fits;

@@ -21,3 +21,4 @@ pub mod SoundShown
 pub mod OneModel
 pub mod AuditSteps
 pub mod Audits
+pub mod Checking

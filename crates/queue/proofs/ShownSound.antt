@@ -156,6 +156,7 @@ module _ (h : Head) (w : List ℕ) (m : Model) (s : Shows h w m) where
 pub shown-sound : (h : Head) (w : List ℕ) (m : Model) → Shows h w m → QueueSound w h
 shown-sound h w m s = record {
   shared = shared-rules h w m s;
+  counts = omega (arith, s .counter, s .valid .means .counter, s .valid .kept .counts);
   some = omega (arith, s .arity, s .valid .means .some);
   most = omega (arith, s .arity, s .valid .means .most);
   fits = omega (arith, s .count, s .cells, model-fits m (s .valid));

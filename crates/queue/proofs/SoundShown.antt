@@ -220,9 +220,9 @@ module _ (h : Head) (w : List ℕ) (r : QueueSound w h) where
           ∙ r .seats p l .behind z)
 
   -- The plain list keeps to the rules.
-  read-kept : h .store .counter ≤ 18446744073709551615 → Kept (plainRead h w free)
+  read-kept : Kept (plainRead h w free)
   unfolding plainRead
-  read-kept small =
+  read-kept =
       let same = arranged-same heap in
       record {
         ordered = arranged-ordered heap orders-once;
@@ -231,7 +231,7 @@ module _ (h : Head) (w : List ℕ) (r : QueueSound w h) where
         tickets = λ k. omega (arith, same (λ (e : Entry). e .ticket) k, tickets-once k);
         orders = λ k. omega (arith, same (λ (e : Entry). e .order) k, orders-once k);
         counted = r .shared .counted;
-        counts = small;
+        counts = r .counts;
         sized = r .shared .some;
         fits = r .shared .most;
       }
@@ -282,10 +282,10 @@ pub record Shown (h : Head) (w : List ℕ) : Type 0 where
   pub model : Model
   pub shows : Shows h w model
 
--- What is sound shows a model, if the counter is a 64-bit number.
-pub sound-shown : (h : Head) (w : List ℕ) → h .store .counter ≤ 18446744073709551615 → QueueSound w h → Shown h w
+-- What is sound shows a model.
+pub sound-shown : (h : Head) (w : List ℕ) → QueueSound w h → Shown h w
 unfolding modelRead
-sound-shown h w small r =
+sound-shown h w r =
     record {
       model = modelRead h w (free h w r);
       shows =
@@ -300,10 +300,10 @@ sound-shown h w small r =
             entries = carried h w r;
             seats = read-stands h w r;
             beyond = read-beyond h w r;
-            valid = record { list = plainRead h w (free h w r); means = read-means h w r; kept = read-kept h w r small };
+            valid = record { list = plainRead h w (free h w r); means = read-means h w r; kept = read-kept h w r };
           };
     }
 
 -- The audit's rules hold exactly if head and words show some model.
-pub sound-exactly : (h : Head) (w : List ℕ) → h .store .counter ≤ 18446744073709551615 → QueueSound w h ↔ Shown h w
-sound-exactly h w small = (sound-shown h w small, λ s. shown-sound h w (s .model) (s .shows))
+pub sound-exactly : (h : Head) (w : List ℕ) → QueueSound w h ↔ Shown h w
+sound-exactly h w = (sound-shown h w, λ s. shown-sound h w (s .model) (s .shows))

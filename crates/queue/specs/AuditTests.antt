@@ -21,9 +21,10 @@ sharedTest w s used free =
     && (allBelow (s .cells) (cellTest w (s .counter) used free)
     && (stackTest w (s .cells) (s .free) && differTest w (usedBelow w (s .cells))))
 
--- "arity 2 to 8", and no more positions than cells
+-- "arity 2 to 8", no more positions than cells, and a counter of 64 bits, which any head in memory has
 unfoldable pub headTest : Head → Bool
-headTest h = leb 2 (h .arity) && (leb (h .arity) 8 && leb (h .count) (h .store .cells))
+headTest h =
+    leb (h .store .counter) 18446744073709551615 && (leb 2 (h .arity) && (leb (h .arity) 8 && leb (h .count) (h .store .cells)))
 
 -- "none is before its parent": of position p in a heap with arity d
 unfoldable pub behindTest : List ℕ → ℕ → ℕ → Bool

@@ -29,6 +29,8 @@ pub record SeatRule (w : List ℕ) (h : Head) (p : ℕ) : Type 0 where
 pub record QueueSound (w : List ℕ) (h : Head) : Type 0 where
   -- What every engine shares.
   pub shared : Sound w (h .store) usedMask freeMask
+  -- The counter is a 64-bit number.
+  pub counts : h .store .counter ≤ 18446744073709551615
   -- "arity 2 to 8"
   pub some : 2 ≤ h .arity
   pub most : h .arity ≤ 8

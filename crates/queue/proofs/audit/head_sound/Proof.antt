@@ -6,7 +6,7 @@ use Rattle.queue.proofs.audit.head_sound.Statement.{statement}
 use Rattle.queue.proofs.audit.head_sound.Tie as tie
 
 returns : tie.Need-returns
-returns c = head-count _ (search needs) (search needs)
+returns c = head-count _ (search needs) (search needs) (search needs)
 
 returns-2 : tie.Need-returns-2
 returns-2 c = head-wide _ (search needs)
