@@ -35,7 +35,7 @@ pub struct Seat {
 }
 
 // Whether an entry of this key and order number is before one of those.
-fn is_before(key: u64, order: u64, key2: u64, order2: u64) -> bool
+pub fn is_before(key: u64, order: u64, key2: u64, order2: u64) -> bool
     ensures { λ r. ⌜ r ≡ ranked key order key2 order2 ⌝ }
 {
     if key < key2 {
@@ -56,7 +56,7 @@ fn take_seat(w: &mut [u64], p: u64, c: u64)
 }
 
 // Who stands at position p.
-fn look(w: &[u64], p: u64) -> Seat
+pub fn look(w: &[u64], p: u64) -> Seat
     ensures { λ r. ⌜ r ≡ seatAt (now (w .entry)) p ⌝ }
 {
     let cell = get(w, p, 6);

@@ -11,28 +11,16 @@ use Rattle.cells.specs.Words.{word}
 use Rattle.cells.specs.Stack.{isFree}
 use Rattle.cells.proofs.Cases.{test, and-false}
 use Rattle.meaning.specs.Heap.{parent}
+use Rattle.heap.specs.declared.seats.Seat.{Seat}
 use Rattle.heap.specs.Seats.{ranked, seatAt}
 use Rattle.queue.specs.AuditTests.{headTest, behindTest, seatTest, placedTest, beyondTest, tableTest}
 use Rattle.queue.specs.declared.head.Head.{Head}
 
--- With equal keys the order numbers decide.
-pub rank-equal : (x o y u : ℕ) → x ≡ y → ltb o u ≡ ranked x o y u
-unfolding ranked
-rank-equal x o y u e = rw (le-ltb x y (omega arith), eq-eqb x y e)
-
--- With keys that differ these decide.
-pub rank-other : (x o y u : ℕ) → (x ≡ y → ⊥) → ltb x y ≡ ranked x o y u
-unfolding ranked
-rank-other x o y u d = rw (ne-eqb x y d) (test (ltb x y) (λ t. rw t) (λ t. rw t))
-
 module _ (w : List ℕ) where
-  -- The words of the cells at two positions are what stands there.
-  pub rank-seats : (p q a b x o y u : ℕ) (r : Bool) → a ≡ word w p 6 → b ≡ word w q 6 → x ≡ word w a 2 → o ≡ word w a 1 → y ≡ word w b 2
-      → u ≡ word w b 1
-      → r ≡ ranked x o y u
+  -- Two entries that were looked at are compared.
+  pub rank-seats : (p q : ℕ) (a b : Seat) (r : Bool) → a ≡ seatAt w p → b ≡ seatAt w q → r ≡ ranked (a .key) (a .order) (b .key) (b .order)
       → r ≡ ranked (seatAt w p .key) (seatAt w p .order) (seatAt w q .key) (seatAt w q .order)
-  unfolding seatAt
-  rank-seats p q a b x o y u r ea eb ex eo ey eu e = rw (← ea, ← eb) (rw (← ex, ← eo, ← ey, ← eu) e)
+  rank-seats p q a b r ea eb e = rw (← ea, ← eb) e
 
   -- The root has no parent.
   pub behind-root : (d p : ℕ) → p ≡ 0 → true ≡ behindTest w d p

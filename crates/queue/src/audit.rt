@@ -5,6 +5,8 @@ use crate::head::Head;
 use cells::audit::audit as shared_sound;
 use cells::stack::is_free;
 use cells::words::get;
+use heap::seats::is_before;
+use heap::seats::look;
 ghost use Prim.Native.Nat.{_≤_};
 ghost use mathlib.Core.Bool.{true};
 ghost use mathlib.Core.Logic.{_↔_};
@@ -14,23 +16,13 @@ ghost use Rattle.heap.specs.Seats.{ranked, seatAt};
 ghost use Rattle.queue.specs.Rules.{QueueSound};
 ghost use Rattle.queue.specs.AuditTests.{headTest, behindTest, seatTest, placedTest, beyondTest, tableTest};
 
-// Whether the first key and order number are before the second.
-fn ranks(key: u64, order: u64, key2: u64, order2: u64) -> bool
-    ensures { λ r. ⌜ r ≡ ranked key order key2 order2 ⌝ }
-{
-    if key == key2 {
-        return order < order2;
-    }
-    key < key2
-}
-
 // Whether the entry at position p is before that at q.
 fn ranks_before(w: &[u64], p: u64, q: u64) -> bool
     ensures { λ r. ⌜ r ≡ ranked (seatAt (now (w .entry)) p .key) (seatAt (now (w .entry)) p .order) (seatAt (now (w .entry)) q .key) (seatAt (now (w .entry)) q .order) ⌝ }
 {
-    let a = get(w, p, 6);
-    let b = get(w, q, 6);
-    ranks(get(w, a, 2), get(w, a, 1), get(w, b, 2), get(w, b, 1))
+    let a = look(w, p);
+    let b = look(w, q);
+    is_before(a.key, a.order, b.key, b.order)
 }
 
 // Whether the entry at position p is not before its parent in a heap with arity d.
