@@ -22,3 +22,5 @@ pub mod OneModel
 pub mod AuditSteps
 pub mod Audits
 pub mod Checking
+pub mod Outcomes
+pub mod MovesLevels

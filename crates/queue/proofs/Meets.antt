@@ -49,7 +49,7 @@ use Rattle.heap.proofs.Permutes.{times-put, times-remove, times-rekey}
 use Rattle.queue.proofs.Seats.{same-length, same-named, seat-holds, root-earliest}
 
 -- A list that is not empty has an entry.
-filled : (es : List Entry) → isEmpty es ≡ false → 0 < length es
+pub filled : (es : List Entry) → isEmpty es ≡ false → 0 < length es
 unfolding isEmpty
 filled [] h = clash refl h
 filled (e ∷ es) h = omega arith
