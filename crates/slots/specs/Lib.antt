@@ -1,0 +1,3 @@
+-- Lists of cells in lent words.
+pub mod Rings
+pub mod Stand
