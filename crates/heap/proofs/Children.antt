@@ -11,7 +11,7 @@ use borrow.Author.Tests.{ltb-true, lt-ltb}
 use Rattle.cells.proofs.Cases.{same?, and-true}
 use Rattle.meaning.specs.Entries.{Entry, before}
 use Rattle.meaning.specs.Heap.{at, parent, earlier, earliestOf, child}
-use Rattle.heap.proofs.Behind.{behind-trans, before-behind, behind-self}
+use Rattle.meaning.proofs.Behind.{behind-trans, before-behind, behind-self}
 use Rattle.heap.proofs.Positions.{child-range, parent-of}
 
 -- A position that is earlier is filled, and its entry is before the other.

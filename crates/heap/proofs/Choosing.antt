@@ -16,7 +16,7 @@ use Rattle.meaning.proofs.Orders.{before-trans}
 use Rattle.heap.specs.declared.seats.Seat.{Seat}
 use Rattle.heap.specs.Seats.{ranked, seatAt, sooner, soonest, firstChild, mayRise, maySink}
 use Rattle.heap.specs.Stands.{Ranks}
-use Rattle.heap.proofs.Behind.{behind-trans}
+use Rattle.meaning.proofs.Behind.{behind-trans}
 use Rattle.heap.proofs.Positions.{parent-below, parent-of}
 use Rattle.heap.proofs.Children.{earliest-among, earliest-filled, child-from, child-filled}
 use Rattle.heap.proofs.Seating.{Hole, all-at}

@@ -13,7 +13,7 @@ use borrow.Author.Tests.{eqb-false}
 use Rattle.meaning.specs.Entries.{Entry, before}
 use Rattle.meaning.specs.Heap.{at, parent, settle, heapPut, heapRemove, heapRekey}
 use Rattle.heap.specs.HeapOrder.{InOrder, InOrderBut, MayRise}
-use Rattle.heap.proofs.Behind.{behind-trans}
+use Rattle.meaning.proofs.Behind.{behind-trans}
 use Rattle.heap.proofs.Positions.{parent-below}
 use Rattle.heap.proofs.Exchanges.{at-set-other, at-take, at-append}
 use Rattle.heap.proofs.Rising.{rise-keeps}

@@ -1,5 +1,4 @@
 -- Laws of the heap.
-pub mod Behind
 pub mod Positions
 pub mod Exchanges
 pub mod Children

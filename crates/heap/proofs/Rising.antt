@@ -13,7 +13,7 @@ use Rattle.cells.proofs.Cases.{same?, and-true}
 use Rattle.meaning.specs.Entries.{Entry, before}
 use Rattle.meaning.specs.Heap.{at, parent, exchange, early, rise}
 use Rattle.heap.specs.HeapOrder.{InOrder, MayRise}
-use Rattle.heap.proofs.Behind.{behind-trans, before-behind}
+use Rattle.meaning.proofs.Behind.{behind-trans, before-behind}
 use Rattle.heap.proofs.Positions.{parent-below}
 use Rattle.heap.proofs.Exchanges.{Exchanged, exchanged}
 

@@ -10,7 +10,7 @@ use Rattle.cells.proofs.Cases.{same?}
 use Rattle.meaning.specs.Entries.{Entry, before}
 use Rattle.meaning.specs.Heap.{at, parent}
 use Rattle.heap.specs.HeapOrder.{InOrder, OrdersDiffer}
-use Rattle.heap.proofs.Behind.{behind-trans, behind-self, behind-before}
+use Rattle.meaning.proofs.Behind.{behind-trans, behind-self, behind-before}
 use Rattle.heap.proofs.Positions.{parent-below}
 
 -- No entry of a heap in order is before the root's.

@@ -11,7 +11,7 @@ use Rattle.cells.proofs.Cases.{same?}
 use Rattle.meaning.specs.Entries.{Entry, before}
 use Rattle.meaning.specs.Heap.{at, parent, exchange, early, rise, earlier, child, sink, settle}
 use Rattle.heap.specs.HeapOrder.{InOrder, InOrderBut, MaySink}
-use Rattle.heap.proofs.Behind.{behind-trans, before-behind}
+use Rattle.meaning.proofs.Behind.{behind-trans, before-behind}
 use Rattle.heap.proofs.Positions.{parent-below}
 use Rattle.heap.proofs.Exchanges.{Exchanged, exchanged}
 use Rattle.heap.proofs.Children.{earlier-true, earlier-false, child-parent, child-below, child-filled-by, child-first}

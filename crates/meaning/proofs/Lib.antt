@@ -1,6 +1,8 @@
 -- The proved table, and the laws of the definitions.
 pub mod Table
 pub mod Orders
+pub mod Behind
+pub mod Arranged
 pub mod Handles
 pub mod Stack
 pub mod Given

@@ -14,7 +14,7 @@ use Rattle.cells.proofs.Lists.{times-here, times-past}
 use Rattle.meaning.specs.Entries.{Entry, nobody}
 use Rattle.meaning.specs.Heap.{at}
 use Rattle.heap.proofs.Displaced.{at-stands}
-use Rattle.queue.specs.Means.{SameEntries}
+use Rattle.meaning.specs.Arranged.{SameEntries}
 
 module _ (P : Entry → Type 0) where
   -- What holds of all holds at each position.
@@ -61,10 +61,6 @@ module _ (f : Entry → ℕ) where
       stands-at k xs (omega arith)
       (λ p l q. absurd (omega (arith, h 0 (suc p) (omega arith) (omega arith) (e ∙ sym q))))))
       (λ d. omega (arith, times-past k (f x) (map f xs) d))
-
-  -- A number that does not stand in the list is no entry's.
-  pub absent-all : (k : ℕ) (xs : List Entry) → times k (map f xs) ≡ 0 → All (λ (e : Entry). f e ≢ k) xs
-  absent-all k xs z = at-all (λ (e : Entry). f e ≢ k) xs (λ p l e. omega (arith, rw e at (at-stands f xs p l)))
 
 -- A test that every entry of one list passes is passed by every one of the same entries in another order.
 pub all-same : (t : Entry → Bool) (xs ys : List Entry) → SameEntries xs ys → All (λ (e : Entry). t e ≡ true) ys

@@ -20,7 +20,8 @@ use Rattle.meaning.proofs.Handles.{ticketOf}
 use Rattle.meaning.proofs.Reached.{kept-call}
 use Rattle.heap.specs.Stands.{cellsOf, Apart, Ranks}
 use Rattle.queue.specs.Model.{Model, step}
-use Rattle.queue.specs.Means.{OfQueue, SameEntries}
+use Rattle.meaning.specs.Arranged.{SameEntries}
+use Rattle.queue.specs.Means.{OfQueue}
 use Rattle.queue.specs.Shows.{Valid, Shows}
 use Rattle.queue.specs.declared.head.Head.{Head}
 use Rattle.queue.proofs.Meets.{meets}

@@ -13,7 +13,6 @@ pub mod SetUpCases
 pub mod SetUpShown
 pub mod Promised
 pub mod ByPosition
-pub mod Arranged
 pub mod ShownFacts
 pub mod Masks
 pub mod ShownSound

@@ -43,7 +43,8 @@ use Rattle.meaning.proofs.Orders.{times-insert}
 use Rattle.meaning.proofs.Handles.{times-without}
 use Rattle.meaning.proofs.Allowed.{found}
 use Rattle.queue.specs.Model.{Model, asPlain, seatOf, keeping, counting, Step, acceptedBy, step}
-use Rattle.queue.specs.Means.{SameEntries, Means, OfQueue}
+use Rattle.meaning.specs.Arranged.{SameEntries}
+use Rattle.queue.specs.Means.{Means, OfQueue}
 use Rattle.heap.proofs.HeapKeeps.{put-in-order, remove-in-order, rekey-in-order}
 use Rattle.heap.proofs.Permutes.{times-put, times-remove, times-rekey}
 use Rattle.queue.proofs.Seats.{same-length, same-named, seat-holds, root-earliest}

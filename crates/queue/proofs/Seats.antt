@@ -16,7 +16,7 @@ use Rattle.meaning.specs.Heap.{at}
 use Rattle.meaning.proofs.Handles.{ticketOf, names-own, named-none, named-all, named-names, named-absent, times-without, named-without-own, named-without-other}
 use Rattle.heap.specs.HeapOrder.{InOrder}
 use Rattle.queue.specs.Model.{seatOf}
-use Rattle.queue.specs.Means.{SameEntries}
+use Rattle.meaning.specs.Arranged.{SameEntries}
 use Rattle.heap.proofs.Root.{root-first}
 
 -- An entry of five words.

@@ -29,7 +29,8 @@ use Rattle.queue.specs.Means.{Means}
 use Rattle.queue.specs.Shows.{Carried, Shows}
 use Rattle.queue.specs.Rules.{usedMask, freeMask, QueueSound}
 use Rattle.queue.specs.declared.head.Head.{Head}
-use Rattle.queue.proofs.Arranged.{arranged, arranged-same, arranged-all, arranged-ordered}
+use Rattle.meaning.specs.Arranged.{arranged}
+use Rattle.meaning.proofs.Arranged.{arranged-same, arranged-all, arranged-ordered}
 use Rattle.queue.proofs.ByPosition.{at-all, stands-at, once-each}
 use Rattle.queue.proofs.Masks.{used-link, used-last, free-others}
 use Rattle.queue.proofs.ShownFacts.{ticket-used, in-use-free, free-not-used, not-free-used}

@@ -1,18 +1,12 @@
 -- When a model of a ready queue means a plain list.
 -- Assumes nothing.
 use Prim.Native.Nat.{ℕ, _≤_}
-use mathlib.Core.List.{List, map}
 use mathlib.Core.Path.{_≡_}
-use Rattle.cells.specs.Lists.{times}
-use Rattle.meaning.specs.Entries.{Entry}
+use Rattle.meaning.specs.Arranged.{SameEntries}
 use Rattle.meaning.specs.Plain.{Plain}
 use Rattle.meaning.specs.Calls.{Call, Put, First, Take, Rekey, Remove, Arm, Move, Cancel, Advance, NextWake}
 use Rattle.heap.specs.HeapOrder.{InOrder}
 use Rattle.queue.specs.Model.{Model}
-
--- The same entries in any order: whatever number is read off an entry, it stands as often in one list as in the other.
-abbrev pub SameEntries : List Entry → List Entry → Type 0
-SameEntries xs ys = (f : Entry → ℕ) (k : ℕ) → times k (map f xs) ≡ times k (map f ys)
 
 -- The same entries, in the heap's order here and in the plain list's there; counter, N and free stack are the same.
 pub record Means (m : Model) (s : Plain) : Type 0 where

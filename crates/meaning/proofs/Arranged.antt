@@ -1,4 +1,4 @@
--- A heap's entries put in their order, one by one: the plain list that a heap means.
+-- Entries put in their order, one by one: the plain list that an engine's entries mean.
 -- Assumes nothing.
 use Prim.Native.Nat.{ℕ, _≤_}
 use native.Mathlib.Omega.{arith}
@@ -7,12 +7,18 @@ use mathlib.Core.List.{List, [], _∷_, map}
 use mathlib.Core.Logic.{_≢_}
 use mathlib.Core.Path.{_≡_, refl, sym}
 use Rattle.cells.specs.Lists.{All, times}
-use Rattle.cells.proofs.Lists.{all-map, times-here}
+use Rattle.cells.proofs.Lists.{all-map, times-here, times-past}
 use Rattle.meaning.specs.Entries.{Entry, before, insert, Ordered}
 use Rattle.meaning.proofs.Orders.{before-trans, all-insert, times-insert}
-use Rattle.heap.proofs.Behind.{behind-before}
-use Rattle.queue.specs.Means.{SameEntries}
-use Rattle.queue.proofs.ByPosition.{absent-all}
+use Rattle.meaning.proofs.Behind.{behind-before}
+use Rattle.meaning.specs.Arranged.{SameEntries, arranged}
+
+-- A number that does not stand in the list is no entry's.
+pub absent-all : (f : Entry → ℕ) (k : ℕ) (xs : List Entry) → times k (map f xs) ≡ 0 → All (λ (e : Entry). f e ≢ k) xs
+absent-all f k [] z = tt
+absent-all f k (x ∷ xs) z =
+    let other : f x ≢ k = λ e. omega (arith, z, times-here k (f x) (map f xs) e) in
+    (other, absent-all f k xs (omega (arith, z, times-past k (f x) (map f xs) other)))
 
 -- A list in order stays so when an entry with an order number of its own is put in.
 pub insert-apart : (x : Entry) (es : List Entry) → All (λ (y : Entry). y .order ≢ x .order) es → Ordered es → Ordered (insert x es)
@@ -24,11 +30,6 @@ insert-apart x (y ∷ ys) h o = go (before x y) refl (insert-apart x ys (h .1) (
     go true e r = ((e, all-map (λ z f. before-trans x y z e f) ys (o .0)), o)
     go false e r =
         (all-insert (λ (z : Entry). before y z ≡ true) x ys (behind-before x y (λ q. h .0 (sym q)) e) (o .0), r)
-
--- The entries of a list in their order.
-unfoldable pub arranged : List Entry → List Entry
-arranged [] = []
-arranged (x ∷ xs) = insert x (arranged xs)
 
 -- They are the same entries.
 pub arranged-same : (xs : List Entry) → SameEntries xs (arranged xs)
