@@ -1,0 +1,4 @@
+-- The wheel's answers, and what its calls promise.
+pub mod Answers
+pub mod Promise
+pub mod Rules

@@ -1,0 +1,3 @@
+// The wheel: a hierarchical timing wheel of six levels of 64 slots over the cell store.
+
+pub mod head;
