@@ -1,1 +1,2 @@
 -- Laws of the wheel.
+pub mod SetUpCases

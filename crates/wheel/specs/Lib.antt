@@ -2,3 +2,4 @@
 pub mod Answers
 pub mod Promise
 pub mod Rules
+pub mod SetUps

@@ -1,3 +1,4 @@
 // The wheel: a hierarchical timing wheel of six levels of 64 slots over the cell store.
 
 pub mod head;
+pub mod setup;
