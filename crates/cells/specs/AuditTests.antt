@@ -4,9 +4,11 @@ use Prim.Native.Nat.{ℕ, zero, suc, _/_}
 use mathlib.Core.Bool.{Bool, true, cond, not, _&&_, _||_}
 use mathlib.Core.List.{List, [], _∷_, _++_}
 use lib.Dec.{leb, ltb, eqb}
+use lib.ListN.{length}
 use Rattle.cells.specs.Words.{word}
 use Rattle.cells.specs.Sorted.{sortBy, cellLeq, neighboursDiffer}
 use Rattle.cells.specs.Rules.{inUse, inMask}
+use Rattle.cells.specs.Stack.{stackTest}
 use Rattle.cells.specs.declared.store.Store.{Store}
 
 -- A test passes at each number below n.
@@ -43,3 +45,10 @@ unfoldable pub differTest : List ℕ → List ℕ → Bool
 differTest w a =
     neighboursDiffer w 0 (sortBy (cellLeq w 0 0) a)
     && neighboursDiffer w 1 (sortBy (cellLeq w 1 1) (sortBy (cellLeq w 0 0) a))
+
+-- The rules that every engine shares, all of them.
+unfoldable pub sharedTest : List ℕ → Store → ℕ → ℕ → Bool
+sharedTest w s used free =
+    sizeTest (length w) s
+    && (allBelow (s .cells) (cellTest w (s .counter) used free)
+    && (stackTest w (s .cells) (s .free) && differTest w (usedBelow w (s .cells))))

@@ -12,59 +12,21 @@ use borrow.Author.Tests.{leb-true, le-leb, ltb-true, lt-ltb, le-ltb, eqb-true, e
 use Rattle.cells.specs.Words.{word}
 use Rattle.cells.specs.Stack.{isFree, stackTest}
 use Rattle.cells.specs.Rules.{inUse, Sound}
-use Rattle.cells.specs.AuditTests.{allBelow, cellTest, usedBelow, sizeTest, differTest}
+use Rattle.cells.specs.AuditTests.{allBelow, sharedTest}
 use Rattle.cells.specs.declared.store.Store.{Store}
 use Rattle.cells.proofs.Cases.{test, same?, atMost?, clash, and-true, or-true}
 use Rattle.cells.proofs.Below.{below-each, each-below}
-use Rattle.cells.proofs.Audits.{fails-size, fails-cells, fails-stack, passes}
+use Rattle.cells.proofs.Audits.{shared-decides}
 use Rattle.meaning.specs.Heap.{parent}
 use Rattle.heap.specs.Seats.{ranked, seatAt}
 use Rattle.queue.specs.Rules.{usedMask, freeMask, SeatRule, QueueSound}
-use Rattle.queue.specs.AuditTests.{sharedTest, headTest, behindTest, seatTest, placedTest, beyondTest, tableTest, auditTest}
+use Rattle.queue.specs.AuditTests.{headTest, behindTest, seatTest, placedTest, beyondTest, tableTest, auditTest}
 use Rattle.queue.specs.declared.head.Head.{Head}
 use Rattle.queue.proofs.ShownFacts.{in-use-free, not-free-used}
 
 -- What must pass and fails rules out what it must pass for.
 refuted : {Q : Type 0} (r : Bool) → (Q → r ≡ true) → r ≡ false → (false ≡ true) ↔ Q
 refuted r f e = (λ z. clash z refl, λ q. clash (f q) e)
-
--- A test that cannot fail where something holds passes there.
-unrefuted : {Q : Type 0} (t : Bool) → (t ≡ false → (false ≡ true) ↔ Q) → Q → t ≡ true
-unrefuted t f q = test t (λ e. e) (λ e. clash (f e .1 q) refl)
-
--- The tests that every engine shares decide the rules that it shares.
-pub shared-decides : (w : List ℕ) (s : Store) (used free : ℕ) → (sharedTest w s used free ≡ true) ↔ Sound w s used free
-unfolding sharedTest
-shared-decides w s used free = (to, from)
-  where
-    size : Bool
-    size = sizeTest (length w) s
-
-    cells : Bool
-    cells = allBelow (s .cells) (cellTest w (s .counter) used free)
-
-    stack : Bool
-    stack = stackTest w (s .cells) (s .free)
-
-    differ : Bool
-    differ = differTest w (usedBelow w (s .cells))
-
-    last : size ≡ true → cells ≡ true → stack ≡ true → (differ ≡ true) ↔ Sound w s used free
-    last a b c = passes w s used free size cells stack differ refl a refl b refl c refl
-
-    to : size && (cells && (stack && differ)) ≡ true → Sound w s used free
-    to t =
-        let one = and-true size (cells && (stack && differ)) t in
-        let two = and-true cells (stack && differ) (one .1) in
-        let three = and-true stack differ (two .1) in
-        last (one .0) (two .0) (three .0) .0 (three .1)
-
-    from : Sound w s used free → size && (cells && (stack && differ)) ≡ true
-    from h =
-        let a : size ≡ true = unrefuted size (λ e. fails-size w s used free size refl e) h in
-        let b : cells ≡ true = unrefuted cells (λ e. fails-cells w s used free cells refl e) h in
-        let c : stack ≡ true = unrefuted stack (λ e. fails-stack w s used free stack refl e) h in
-        rw (a, b, c) (last a b c .1 h)
 
 -- What the head's test finds.
 pub record HeadRule (h : Head) : Type 0 where

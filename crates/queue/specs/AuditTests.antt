@@ -7,19 +7,12 @@ use lib.Dec.{leb, ltb, eqb}
 use lib.ListN.{length}
 use Rattle.cells.specs.Words.{word}
 use Rattle.cells.specs.Stack.{isFree, stackTest}
-use Rattle.cells.specs.AuditTests.{allBelow, cellTest, usedBelow, sizeTest, differTest}
+use Rattle.cells.specs.AuditTests.{sharedTest, allBelow, cellTest, usedBelow, sizeTest, differTest}
 use Rattle.cells.specs.declared.store.Store.{Store}
 use Rattle.meaning.specs.Heap.{parent}
 use Rattle.heap.specs.Seats.{ranked, seatAt}
 use Rattle.queue.specs.Rules.{usedMask, freeMask}
 use Rattle.queue.specs.declared.head.Head.{Head}
-
--- The rules that every engine shares, all of them.
-unfoldable pub sharedTest : List ℕ → Store → ℕ → ℕ → Bool
-sharedTest w s used free =
-    sizeTest (length w) s
-    && (allBelow (s .cells) (cellTest w (s .counter) used free)
-    && (stackTest w (s .cells) (s .free) && differTest w (usedBelow w (s .cells))))
 
 -- "arity 2 to 8", no more positions than cells, and a counter of 64 bits, which any head in memory has
 unfoldable pub headTest : Head → Bool
