@@ -2,7 +2,7 @@
 -- Assumes nothing.
 use Prim.Native.Nat.{ℕ, zero, suc, _+_, _*_, _≤_, _<_}
 use native.Mathlib.Omega.{arith}
-use mathlib.Core.List.{List, [], _∷_, _++_}
+use mathlib.Core.List.{List, [], _∷_, _++_, map}
 use mathlib.Core.Path.{_≡_, refl, _∙_}
 use lib.ListN.{length, take, drop}
 use borrow.Author.Tests.{eq-eqb, ne-eqb}
@@ -90,3 +90,8 @@ module _ {A : Type 0} where
   pub all-every : (P : A → Type 0) → ((x : A) → P x) → (xs : List A) → All P xs
   all-every P f [] = tt
   all-every P f (x ∷ xs) = (f x, all-every P f xs)
+
+  -- What holds of every number read off the elements holds of each element's.
+  pub all-read : (P : ℕ → Type 0) (f : A → ℕ) (xs : List A) → All P (map f xs) → All (λ (x : A). P (f x)) xs
+  all-read P f [] h = tt
+  all-read P f (x ∷ xs) h = (h .0, all-read P f xs (h .1))

@@ -2,13 +2,13 @@
 -- Assumes nothing.
 use Prim.Native.Nat.{ℕ, zero, suc, _+_, _≤_, _<_}
 use native.Mathlib.Omega.{arith}
-use mathlib.Core.Bool.{cond}
+use mathlib.Core.Bool.{Bool, true, false, cond}
 use mathlib.Core.List.{List, [], _∷_}
-use mathlib.Core.Path.{_≡_, refl, _∙_}
-use lib.Dec.{eqb}
+use mathlib.Core.Path.{_≡_, refl, subst, _∙_}
+use lib.Dec.{ltb, eqb}
 use lib.ListN.{length}
-use borrow.Author.Tests.{eq-eqb, ne-eqb}
-use Rattle.cells.proofs.Cases.{same?}
+use borrow.Author.Tests.{eq-eqb, ne-eqb, le-ltb}
+use Rattle.cells.proofs.Cases.{same?, atMost?}
 use Rattle.cells.proofs.Lists.{times-here, times-past}
 use Rattle.cells.specs.Lists.{All, times, sumBelow}
 
@@ -89,3 +89,30 @@ all-standing P (x ∷ xs) h = (h x (omega (arith, times-here x x xs refl)), all-
   where
     more : (y : ℕ) → 0 < times y xs → 0 < times y (x ∷ xs)
     more y k = same? x y (λ e. omega (arith, times-here y x xs e)) (λ d. omega (arith, times-past y x xs d))
+
+-- The sum of ones.
+sumBelow-ones : (n : ℕ) → sumBelow (λ (x : ℕ). 1) n ≡ n
+unfolding sumBelow
+sumBelow-ones zero = refl
+sumBelow-ones (suc n) = omega (arith, sumBelow-ones n)
+
+-- A count of one or none is at most one.
+pub cond-bit : (t : Bool) → cond t 1 0 ≤ 1
+cond-bit true = omega arith
+cond-bit false = omega arith
+
+-- What is counted only below n, and is counted, is below n.
+pub standing-below : (x n k : ℕ) → k ≤ cond (ltb x n) 1 0 → 0 < k → x < n
+standing-below x n k h l =
+    atMost? n x (λ i. absurd (omega (arith, l, subst (λ (t : Bool). k ≤ cond t 1 0) (le-ltb x n i) h))) (λ i. i)
+
+-- A list of numbers below n, none of them twice, has at most n.
+pub few : (n : ℕ) (xs : List ℕ) → ((x : ℕ) → times x xs ≤ cond (ltb x n) 1 0) → length xs ≤ n
+few n xs once =
+    let below : All (λ (x : ℕ). x < n) xs = all-standing _ xs (λ x l. standing-below x n (times x xs) (once x) l) in
+    omega (
+      arith,
+      length-times n xs below,
+      sumBelow-most (λ (x : ℕ). times x xs) (λ (x : ℕ). 1) n (λ x i. omega (arith, once x, cond-bit (ltb x n))),
+      sumBelow-ones n,
+    )

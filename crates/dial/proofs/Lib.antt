@@ -1,1 +1,24 @@
 -- Laws of the dial.
+pub mod Listed
+pub mod StableKept
+pub mod Facts
+pub mod DueFirst
+pub mod AnyOrder
+pub mod Wakings
+pub mod Advances
+pub mod ListTicks
+pub mod TickBound
+pub mod Entered
+pub mod Numbers
+pub mod Passing
+pub mod Turning
+pub mod Moving
+pub mod Walking
+pub mod Entering
+pub mod CellLists
+pub mod Holding
+pub mod Leaving
+pub mod FiledShown
+pub mod Recording
+pub mod FiredShown
+pub mod HandingOut

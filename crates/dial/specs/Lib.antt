@@ -2,3 +2,4 @@
 pub mod Joined
 pub mod Turns
 pub mod Shows
+pub mod Records

@@ -37,6 +37,11 @@ pub unused : (counter : ℕ) (f : Entry → ℕ) (es : List Entry) → All (λ (
 unused counter f [] a = unfold times in refl
 unused counter f (e ∷ es) a = times-past counter (f e) (map f es) (λ q. omega (arith, a .0)) ∙ unused counter f es (a .1)
 
+-- The tickets of entries by the rules.
+pub numbers : (counter : ℕ) (es : List Entry) → All (Numbered counter) es → All (λ (k : ℕ). (1 ≤ k) × (k < counter)) (map ticketOf es)
+numbers counter [] a = tt
+numbers counter (e ∷ es) a = ((a .0 .some, omega (arith, a .0 .rising, a .0 .taken)), numbers counter es (a .1))
+
 -- A number as often as before or, where it is the counter's, new.
 once-more : (f : Entry → ℕ) (counter k : ℕ) (es : List Entry) → All (λ (e : Entry). f e < counter) es → times k (map f es) ≤ 1
     → times k (counter ∷ map f es) ≤ 1

@@ -4,6 +4,8 @@ pub mod Orders
 pub mod Behind
 pub mod Arranged
 pub mod Handles
+pub mod Same
+pub mod Unique
 pub mod Stack
 pub mod Given
 pub mod Due
@@ -12,4 +14,5 @@ pub mod Kept
 pub mod Reached
 pub mod Handed
 pub mod Timed
+pub mod Moves
 pub mod Becomes

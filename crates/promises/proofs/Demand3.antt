@@ -5,27 +5,24 @@ use native.Mathlib.Omega.{arith}
 use mathlib.Core.Bool.{Bool}
 use mathlib.Core.List.{List, [], _∷_, _++_, map, append-nil}
 use mathlib.Core.Path.{_≡_, sym, ap, ap₂, _∙_}
-use lib.ListN.{take, drop, take-append-drop}
-use lib.Seq.{take-add, drop-drop}
+use lib.ListN.{take, drop}
+use lib.Seq.{take-add}
 use borrow.Author.Tests.{ltb-false}
-use Rattle.cells.specs.Lists.{All}
-use Rattle.cells.proofs.Lists.{all-map, all-drop, all-both}
+use Rattle.cells.proofs.Lists.{all-map}
 use Rattle.places.specs.Ticks.{lastTick}
-use Rattle.meaning.specs.Entries.{Entry}
 use Rattle.meaning.specs.Plain.{Plain, hands, apply}
 use Rattle.meaning.specs.Refusals.{beyond, Free}
 use Rattle.meaning.specs.Calls.{Advance, Answer, Advanced, Shown, shown, Report, isRefused, reportOf, causes, handOut, result, dueBy, allMoves}
 use Rattle.meaning.specs.Runs.{after, answers}
 use Rattle.meaning.proofs.Handles.{map-append}
-use Rattle.meaning.proofs.Stack.{onto-append}
 use Rattle.meaning.proofs.Due.{due-split}
 use Rattle.meaning.specs.Kept.{Kept, Timed}
 use Rattle.meaning.specs.Handed.{Handed}
 use Rattle.promises.specs.Demand3.{Ask, asked, reports, joined, total, Brings, AsOne}
-use Rattle.meaning.proofs.Handed.{accepted-free, advance-free, advance-done}
+use Rattle.meaning.proofs.Handed.{hands-twice, accepted-free, advance-free, advance-done}
 use Rattle.meaning.proofs.Reached.{kept-call}
 use Rattle.meaning.proofs.Timed.{timed-call, advance-hands}
-use Rattle.promises.proofs.Moves.{allMoves-append, allMoves-early, allMoves-late, allMoves-bound}
+use Rattle.meaning.proofs.Moves.{allMoves-split, allMoves-bound}
 
 -- What a hand-out reports.
 unfoldable pub reportedBy : ℕ → ℕ → Bool → ℕ → ℕ → Plain → Report
@@ -40,11 +37,6 @@ module _ (b n t r : ℕ) (s : Plain) (h : Handed b n t r s) where
   pub handed-answer : result b n (Advance t r) s .answer ≡ Advanced (reportedBy b n (h .done) (h .m) (h .c) s)
   unfolding result handOut reportedBy
   handed-answer = rw (h .same)
-
--- Two hand-outs are one.
-hands-twice : (m c k u : ℕ) (s : Plain) → apply (hands k u) (apply (hands m c) s) ≡ apply (hands (m + k) u) s
-unfolding apply
-hands-twice m c k u s = rw (drop-drop k m (s .entries), take-add m k (s .entries), onto-append (take m (s .entries)) (take k (drop m (s .entries))) (s .free))
 
 -- What the advances together do: they hand out all that is due by u, at clock u.
 record Whole (b n u : ℕ) (asks : List Ask) (s : Plain) : Type 0 where
@@ -74,28 +66,6 @@ module _ (b n u : ℕ) (positive : 0 < b) where
         counts = rw (answer, clock) (omega arith);
       }
 
-  -- Moves up to c of all and from c on of the others are the moves up to u.
-  moves-split : (m c : ℕ) (s : Plain) → Timed b n s → s .clock ≤ c → c ≤ u → All (λ (e : Entry). e .key ≤ c) (take m (s .entries))
-      → All (λ (e : Entry). c ≤ e .key) (drop m (s .entries))
-      → allMoves b n (s .clock) c (s .entries) + allMoves b n c u (drop m (s .entries)) ≡ allMoves b n (s .clock) u (s .entries)
-  moves-split m c s timed h k early late =
-      let parts : (t : ℕ)
-      → allMoves b n (s .clock) t (s .entries)
-      ≡ allMoves b n (s .clock) t (take m (s .entries)) + allMoves b n (s .clock) t (drop m (s .entries)) =
-      λ t.
-      ap (allMoves b n (s .clock) t) (sym (take-append-drop m (s .entries)))
-      ∙ allMoves-append b n (s .clock) t (take m (s .entries)) (drop m (s .entries)) in
-      let last : All (λ (e : Entry). e .key ≤ lastTick b n) (drop m (s .entries)) =
-      all-drop (λ (e : Entry). e .key ≤ lastTick b n) m (s .entries) (all-map (λ e w. w .last) (s .entries) (timed .deadlines)) in
-      omega (
-        arith,
-        parts c,
-        parts u,
-        allMoves-early b n (s .clock) c u (take m (s .entries)) k early,
-        allMoves-late b n (s .clock) c u (drop m (s .entries)) positive h k
-            (all-both (λ (e : Entry). c ≤ e .key) (λ (e : Entry). e .key ≤ lastTick b n) (drop m (s .entries)) late last),
-      )
-
   -- What one advance hands out and what the others hand out is what one advance to u hands out.
   whole-split : (a : Ask) (rest : List Ask) (s : Plain) → Timed b n s → (h : Handed b n (a .target) (a .room) s)
       → Whole b n u rest (apply (hands (h .m) (h .c)) s)
@@ -123,7 +93,7 @@ module _ (b n u : ℕ) (positive : 0 < b) where
         counts =
             ap₂ (λ (x : Answer) (y : Plain). reportOf x .moves + total (reports b n rest y)) answer next
             ∙ ap (λ (j : ℕ). allMoves b n (s .clock) (h .c) (s .entries) + j) (v .counts)
-            ∙ (moves-split (h .m) (h .c) s timed (h .forward) below (h .early) (h .late));
+            ∙ (allMoves-split b n u positive (h .m) (h .c) s timed (h .forward) below (h .early) (h .late));
       }
 
   whole : (asks : List Ask) (s : Plain) → Kept s → Timed b n s → Brings b n u asks s → Whole b n u asks s

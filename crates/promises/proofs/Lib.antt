@@ -1,5 +1,4 @@
 -- The promises over the plain list.
-pub mod Moves
 pub mod Demand3
 pub mod Rounds
 pub mod Refusals

@@ -13,9 +13,9 @@ use Rattle.cells.specs.Words.{word}
 use Rattle.cells.specs.Stack.{Chain, link}
 use Rattle.cells.specs.Store.{releaseWords, releaseStore}
 use Rattle.cells.proofs.Cases.{same?, atMost?}
-use Rattle.cells.proofs.Lists.{all-map, all-both, all-take, times-here, times-past}
+use Rattle.cells.proofs.Lists.{all-map, all-both, all-take, all-read, times-here, times-past}
 use Rattle.cells.proofs.Memory.{word-no-field}
-use Rattle.cells.proofs.Sums.{all-standing}
+use Rattle.cells.proofs.Sums.{all-standing, cond-bit}
 use Rattle.cells.proofs.Chains.{chain-links}
 use Rattle.cells.proofs.Rows.{Rewritten, releasedWord, released-words}
 use Rattle.meaning.specs.Entries.{Entry, named}
@@ -24,6 +24,7 @@ use Rattle.meaning.specs.Calls.{Call, First, Take, Remove, Answer, Refused, Loa
 use Rattle.meaning.specs.Calls as calls
 use Rattle.meaning.specs.Heap.{at, heapRemove, heapMoves}
 use Rattle.meaning.proofs.Handles.{ticketOf}
+use Rattle.meaning.proofs.Stack.{cellOf}
 use Rattle.heap.specs.Seats.{Walk}
 use Rattle.heap.specs.Stands.{cellsOf, Stands, Ranks, Apart}
 use Rattle.heap.proofs.Exchanges.{length-heapRemove}
@@ -43,7 +44,7 @@ use Rattle.queue.specs.Promise.{Done}
 use Rattle.queue.specs.declared.head.Head.{Head}
 use Rattle.queue.proofs.Named.{Held}
 use Rattle.queue.proofs.Refused.{refused-moves, done-by, refused-done}
-use Rattle.queue.proofs.Facts.{Facts, facts, cells-all, cond-bit, valid-next}
+use Rattle.queue.proofs.Facts.{Facts, facts, valid-next}
 
 -- What the heap's law asks of the words and of the heap in them when the entry at p is to leave.
 pub record LeaveReady (w : List ℕ) (m : Model) (p : ℕ) : Type 0 where
@@ -166,7 +167,7 @@ module _ (h : Head) (w : List ℕ) (m : Model) (s : Shows h w m) (p c : ℕ) (l 
   others : All (λ (e : Entry). c ≢ e .cell) after
   unfolding after
   others =
-      cells-all (λ (x : ℕ). c ≢ x) after
+      all-read (λ (x : ℕ). c ≢ x) cellOf after
       (all-standing (λ (x : ℕ). c ≢ x) (cellsOf after)
       (λ x i e. omega (arith, rw (here, e) at (cell-leaves w (m .arity) p (m .heap) l (known .apart)))))
 

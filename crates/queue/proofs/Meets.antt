@@ -47,7 +47,8 @@ use Rattle.meaning.specs.Arranged.{SameEntries}
 use Rattle.queue.specs.Means.{Means, OfQueue}
 use Rattle.heap.proofs.HeapKeeps.{put-in-order, remove-in-order, rekey-in-order}
 use Rattle.heap.proofs.Permutes.{times-put, times-remove, times-rekey}
-use Rattle.queue.proofs.Seats.{same-length, same-named, seat-holds, root-earliest}
+use Rattle.meaning.proofs.Same.{same-length, same-named}
+use Rattle.queue.proofs.Seats.{seat-holds, root-earliest}
 
 -- A list that is not empty has an entry.
 pub filled : (es : List Entry) → isEmpty es ≡ false → 0 < length es

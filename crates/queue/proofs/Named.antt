@@ -17,13 +17,14 @@ use Rattle.meaning.specs.Entries.{Entry, names, named}
 use Rattle.meaning.specs.Refusals.{isNone}
 use Rattle.meaning.specs.Heap.{at}
 use Rattle.meaning.proofs.Handles.{names-own, named-all, named-names, named-present}
+use Rattle.meaning.proofs.Same.{names-by}
 use Rattle.meaning.proofs.Allowed.{found}
 use Rattle.heap.specs.Stands.{cellsOf}
 use Rattle.queue.specs.Model.{Model, seatOf}
 use Rattle.queue.specs.Shows.{Carried, Shows}
 use Rattle.queue.specs.declared.head.Head.{Head}
 use Rattle.queue.proofs.Facts.{facts}
-use Rattle.queue.proofs.Seats.{seat-holds, names-by}
+use Rattle.queue.proofs.Seats.{seat-holds}
 
 -- The handle (c, k) names an entry, which stands at the position that cell c knows.
 pub record Held (w : List ℕ) (m : Model) (c k : ℕ) : Type 0 where

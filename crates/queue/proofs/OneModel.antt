@@ -14,11 +14,11 @@ use Rattle.cells.proofs.Distinct.{all-times}
 use Rattle.cells.proofs.Places.{words-ext}
 use Rattle.meaning.specs.Entries.{Entry}
 use Rattle.meaning.specs.Heap.{at}
+use Rattle.meaning.proofs.Same.{entry-same}
 use Rattle.queue.specs.Model.{Model}
 use Rattle.queue.specs.Shows.{Carried, Shows}
 use Rattle.queue.specs.declared.head.Head.{Head}
 use Rattle.queue.proofs.ByPosition.{heap-ext}
-use Rattle.queue.proofs.Seats.{entry-same}
 use Rattle.queue.proofs.ShownFacts.{free-cells, cell-either, carried-at}
 
 -- A model of its parts.

@@ -6,7 +6,7 @@ use mathlib.Core.Bool.{true, false, cond}
 use mathlib.Core.List.{List, [], _∷_, _++_, map, tail}
 use mathlib.Core.Logic.{_≢_}
 use mathlib.Core.Path.{_≡_, refl, sym, ap, subst, _∙_}
-use lib.ListN.{length, length-append}
+use lib.ListN.{length, length-append, length-map}
 use lib.Dec.{ltb, eqb}
 use borrow.Author.Tests.{leb-false}
 use Rattle.cells.specs.Lists.{All, times}
@@ -14,8 +14,8 @@ use Rattle.cells.specs.Words.{word}
 use Rattle.cells.specs.Stack.{link}
 use Rattle.cells.specs.Store.{noFree, spent, entered}
 use Rattle.cells.proofs.Cases.{same?}
-use Rattle.cells.proofs.Lists.{all-map, all-both, times-here, times-past}
-use Rattle.cells.proofs.Sums.{all-standing}
+use Rattle.cells.proofs.Lists.{all-map, all-both, all-read, times-here, times-past}
+use Rattle.cells.proofs.Sums.{all-standing, cond-bit, few}
 use Rattle.cells.proofs.Chains.{chain-links}
 use Rattle.cells.proofs.Rows.{entered-words}
 use Rattle.meaning.specs.Entries.{Entry}
@@ -25,6 +25,7 @@ use Rattle.meaning.specs.Refusals.{firstOf, Free, isEmpty, full}
 use Rattle.meaning.specs.Calls.{Put, Handle, causes}
 use Rattle.meaning.specs.Heap.{at, heapPut, heapMoves}
 use Rattle.meaning.proofs.Handles.{ticketOf}
+use Rattle.meaning.proofs.Stack.{cellOf}
 use Rattle.meaning.proofs.Given.{given-free}
 use Rattle.heap.specs.Seats.{Walk, enterWalk}
 use Rattle.heap.specs.Stands.{cellsOf, StandsBut, Ranks, Apart}
@@ -37,7 +38,7 @@ use Rattle.queue.specs.Shows.{Valid, Carried, Shows}
 use Rattle.queue.specs.Answers.{told, refusal}
 use Rattle.queue.specs.Promise.{Done}
 use Rattle.queue.specs.declared.head.Head.{Head}
-use Rattle.queue.proofs.Facts.{cond-bit, few, length-cells, cells-all, facts, valid-next}
+use Rattle.queue.proofs.Facts.{facts, valid-next}
 use Rattle.queue.proofs.Carries.{carried-reseated, all-last, cells-last, entered-places, entered-table, entered-carried, entered-others}
 use Rattle.queue.proofs.Refused.{Topped, topped, no-free-shown, refused-done}
 
@@ -139,7 +140,7 @@ module _ (h : Head) (w : List ℕ) (m : Model) (s : Shows h w m) (key load : ℕ
     -- No entry that was there has it.
     others-apart : All (λ (x : Entry). x .cell ≢ h .store .free) (m .heap)
     others-apart =
-        cells-all (λ (c : ℕ). c ≢ h .store .free) (m .heap)
+        all-read (λ (c : ℕ). c ≢ h .store .free) cellOf (m .heap)
         (all-standing _ (cellsOf (m .heap))
         (λ c l e. omega (arith, l, new-once (h .store .free), top-taken, ap (λ (x : ℕ). times x (cellsOf (m .heap))) e)))
 
@@ -190,7 +191,7 @@ module _ (h : Head) (w : List ℕ) (m : Model) (s : Shows h w m) (key load : ℕ
         omega (
           arith,
           few (m .cells) (cellsOf (withNew key load m)) (λ c. omega (arith, split-new c)),
-          length-cells (withNew key load m),
+          length-map (withNew key load m) cellOf,
           length-new,
         )
 

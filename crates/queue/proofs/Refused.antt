@@ -11,7 +11,7 @@ use Rattle.cells.specs.Lists.{All, times}
 use Rattle.cells.specs.Stack.{Chain}
 use Rattle.cells.specs.Store.{noFree}
 use Rattle.cells.proofs.Cases.{clash}
-use Rattle.cells.proofs.Sums.{all-standing}
+use Rattle.cells.proofs.Sums.{all-standing, standing-below}
 use Rattle.meaning.specs.Entries.{Entry}
 use Rattle.meaning.specs.Heap.{at, heapMoves}
 use Rattle.meaning.specs.Plain.{top}
@@ -23,7 +23,7 @@ use Rattle.queue.specs.Shows.{Shows}
 use Rattle.queue.specs.Answers.{Told, told, refusal}
 use Rattle.queue.specs.Promise.{Done}
 use Rattle.queue.specs.declared.head.Head.{Head}
-use Rattle.queue.proofs.Facts.{standing-below, facts}
+use Rattle.queue.proofs.Facts.{facts}
 
 -- A heap that stays as it is moves nothing.
 pub refused-moves : (h : List Entry) → heapMoves h h ≡ 0

@@ -14,6 +14,7 @@ use Rattle.cells.specs.Stack.{link}
 use Rattle.cells.specs.Store.{holdsTicket, spent}
 use Rattle.cells.proofs.Cases.{same?}
 use Rattle.cells.proofs.Lists.{all-map, all-every}
+use Rattle.cells.proofs.Sums.{cond-bit}
 use Rattle.cells.proofs.Chains.{chain-links}
 use Rattle.cells.proofs.Places.{put-other-field}
 use Rattle.cells.proofs.Rows.{Rewritten, rewritten-none, rewritten-put}
@@ -38,7 +39,7 @@ use Rattle.queue.specs.Shows.{Valid, Carried, Shows}
 use Rattle.queue.specs.Answers.{told, refusal}
 use Rattle.queue.specs.Promise.{Done}
 use Rattle.queue.specs.declared.head.Head.{Head}
-use Rattle.queue.proofs.Facts.{facts, cond-bit, valid-next}
+use Rattle.queue.proofs.Facts.{facts, valid-next}
 use Rattle.queue.proofs.Refused.{refused-done}
 use Rattle.queue.proofs.Named.{Held, held, lost}
 

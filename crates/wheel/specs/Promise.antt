@@ -15,10 +15,6 @@ use Rattle.wheel.specs.declared.head.Head.{Head}
 use Rattle.wheel.specs.declared.head.AdvanceAnswer.{AdvanceAnswer}
 use Rattle.wheel.specs.declared.head.AdvanceAnswer.the-variants as advance
 
--- The lists in lent words and arrays.
-unfoldable pub lists : List ℕ → List ℕ → List ℕ → List ℕ → Dial → Lists
-lists w first last marks d = record { words = w; first = first; last = last; marks = marks; due = d .due }
-
 -- The lists of a head.
 unfoldable pub headLists : Head → List ℕ → Lists
 headLists h w = record { words = w; first = h .first; last = h .last; marks = h .marks; due = h .dial .due }
