@@ -16,3 +16,4 @@ pub mod Handed
 pub mod Timed
 pub mod Moves
 pub mod Becomes
+pub mod HandleTest

@@ -1,27 +1,23 @@
 -- The handle test on the words is the model's: a handle that passes names the entry whose position its cell knows, and any other names none.
 -- Assumes nothing.
-use Prim.Native.Nat.{ℕ, _+_, _/_, _≤_, _<_}
+use Prim.Native.Nat.{ℕ, _≤_, _<_}
 use native.Mathlib.Omega.{arith}
 use mathlib.Core.Bool.{true, false}
-use mathlib.Core.List.{List, [], _∷_}
-use mathlib.Core.Path.{_≡_, sym, ap, _∙_}
+use mathlib.Core.List.{List, map}
+use mathlib.Core.Path.{_≡_, ap, _∙_}
 use lib.ListN.{length}
-use borrow.Author.Tests.{eqb-true, eq-eqb, lt-ltb}
-use Rattle.cells.specs.Lists.{All, times}
 use Rattle.cells.specs.Words.{word}
 use Rattle.cells.specs.Store.{holdsTicket}
-use Rattle.cells.proofs.Cases.{test, same?, atMost?, clash}
-use Rattle.cells.proofs.Lists.{times-past}
-use Rattle.cells.proofs.Claims.{handle-past, handle-free, handle-used}
-use Rattle.meaning.specs.Entries.{Entry, names, named}
+use Rattle.cells.proofs.Lists.{all-map, all-read}
+use Rattle.cells.proofs.Sums.{all-standing}
+use Rattle.meaning.specs.Entries.{Entry, named}
 use Rattle.meaning.specs.Refusals.{isNone}
 use Rattle.meaning.specs.Heap.{at}
-use Rattle.meaning.proofs.Handles.{names-own, named-all, named-names, named-present}
-use Rattle.meaning.proofs.Same.{names-by}
+use Rattle.meaning.proofs.Handles.{ticketOf, names-own, named-names}
+use Rattle.meaning.proofs.HandleTest.{Bearing, test-held, test-lost}
 use Rattle.meaning.proofs.Allowed.{found}
-use Rattle.heap.specs.Stands.{cellsOf}
 use Rattle.queue.specs.Model.{Model, seatOf}
-use Rattle.queue.specs.Shows.{Carried, Shows}
+use Rattle.queue.specs.Shows.{Shows}
 use Rattle.queue.specs.declared.head.Head.{Head}
 use Rattle.queue.proofs.Facts.{facts}
 use Rattle.queue.proofs.Seats.{seat-holds}
@@ -34,28 +30,18 @@ pub record Held (w : List ℕ) (m : Model) (c k : ℕ) : Type 0 where
   pub known : word w c 5 ≡ seatOf c k (m .heap)
   pub live : isNone (named c k (m .heap)) ≡ false
 
--- A cell of the entries, with the ticket that its word 0 tells, is named by a handle.
-named-standing : (w : List ℕ) (c k : ℕ) (es : List Entry) → All (Carried w) es → word w c 0 ≡ k → 1 ≤ times c (cellsOf es)
-    → isNone (named c k es) ≡ false
-unfolding named isNone
-named-standing w c k [] a e l = absurd (unfold times in omega arith)
-named-standing w c k (x ∷ xs) a e l =
-    test (names c k x)
-    (λ t. rw t)
-    (λ t.
-    let other : x .cell ≡ c → ⊥ =
-    λ q. clash (names-by c k x q (sym (a .0 .ticket) ∙ ap (λ (b : ℕ). word w b 0) q ∙ e)) t in
-    rw t (named-standing w c k xs (a .1) e (omega (arith, times-past c (x .cell) (cellsOf xs) other))))
-
 module _ (h : Head) (w : List ℕ) (m : Model) (s : Shows h w m) (c k : ℕ) where
-  -- A cell that has a ticket is an entry's.
-  used-standing : c < h .store .cells → (word w c 0 ≡ 0 → ⊥) → 1 ≤ times c (cellsOf (m .heap))
-  used-standing l used =
-      let both : times c (cellsOf (m .heap)) + times c (m .free) ≡ 1 =
-      rw (lt-ltb c (m .cells) (omega (arith, s .cells))) at (facts h w m s .split c) in
-      same? (times c (m .free)) 0
-      (λ z. omega arith)
-      (λ n. absurd (used (s .blank c 0 (omega arith) (omega arith) (omega arith))))
+  -- The words tell of each cell whose it is.
+  bearing : Bearing w (h .store .cells) (m .heap) (m .free)
+  bearing =
+      let f = facts h w m s in
+      record {
+        split = λ c. rw (s .cells) (f .split c);
+        inside = all-map (λ e l. omega (arith, s .cells, s .size)) (m .heap) (f .apart .inside);
+        tickets = all-map (λ e r. r .ticket) (m .heap) (s .entries);
+        issued = all-read (λ (k : ℕ). 1 ≤ k) ticketOf (m .heap) (all-standing _ (map ticketOf (m .heap)) (λ k l. f .issued k l .0));
+        blank = λ c l. s .blank c 0 l (omega arith) (omega arith);
+      }
 
   -- The entry that a handle names stands where its cell tells.
   live-held : isNone (named c k (m .heap)) ≡ false → Held w m c k
@@ -74,29 +60,8 @@ module _ (h : Head) (w : List ℕ) (m : Model) (s : Shows h w m) (c k : ℕ) whe
 
   -- A handle that passes the test on the words names an entry.
   pub held : holdsTicket w (h .store) c k ≡ true → Held w m c k
-  held t =
-      atMost? (h .store .cells) c
-      (λ l. clash t (handle-past w (h .store) c k l))
-      (λ l.
-      same? (word w c 0) 0
-      (λ e. clash t (handle-free w (h .store) c k l e))
-      (λ n.
-      let own : word w c 0 ≡ k = eqb-true (word w c 0) k (sym (handle-used w (h .store) c k l n) ∙ t) in
-      live-held (named-standing w c k (m .heap) (s .entries) own (used-standing l n))))
+  held t = live-held (test-held w (h .store) (m .heap) (m .free) bearing c k t)
 
   -- A handle that fails it names none.
   pub lost : holdsTicket w (h .store) c k ≡ false → isNone (named c k (m .heap)) ≡ true
-  lost f =
-      test (isNone (named c k (m .heap)))
-      (λ t. t)
-      (λ live.
-      let (e, q) = found (named c k (m .heap)) live in
-      let own = names-own c k e (named-names c k e (m .heap) q) in
-      let carried : Carried w e = named-all c k (Carried w) e (m .heap) q (s .entries) in
-      let within : e .cell < length w / 8 =
-      named-all c k (λ (x : Entry). x .cell < length w / 8) e (m .heap) q (facts h w m s .apart .inside) in
-      let some : (1 ≤ k) × (k < m .counter) = facts h w m s .issued k (named-present c k e (m .heap) q) in
-      let first : word w c 0 ≡ k = rw (own .0, own .1) at (carried .ticket) in
-      clash
-      (handle-used w (h .store) c k (omega (arith, own .0, s .cells, s .size)) (λ z. omega arith) ∙ eq-eqb (word w c 0) k first)
-      f)
+  lost f = test-lost w (h .store) (m .heap) (m .free) bearing c k f
