@@ -5,9 +5,7 @@ use native.Mathlib.Omega.{arith}
 use mathlib.Core.Bool.{false}
 use mathlib.Core.List.{List, [], _∷_, tail}
 use mathlib.Core.Path.{_≡_, refl, sym, ap, subst, _∙_}
-use lib.Dec.{leb}
-use borrow.Author.Tests.{le-leb, lt-leb}
-use Rattle.cells.specs.Lists.{All, times}
+use Rattle.cells.specs.Lists.{times}
 use Rattle.cells.specs.Stack.{Chain}
 use Rattle.cells.specs.Store.{noFree}
 use Rattle.cells.proofs.Cases.{clash}
@@ -23,6 +21,7 @@ use Rattle.queue.specs.Shows.{Shows}
 use Rattle.queue.specs.Answers.{Told, told, refusal}
 use Rattle.queue.specs.Promise.{Done}
 use Rattle.queue.specs.declared.head.Head.{Head}
+use Rattle.meaning.proofs.Stack.{empty-top}
 use Rattle.queue.proofs.Facts.{facts}
 
 -- A heap that stays as it is moves nothing.
@@ -51,12 +50,6 @@ unfolding isEmpty top
 topped next a [] h e = clash refl e
 topped next a (c ∷ cs) h e =
     record { first = sym (h .0); whole = ap (λ (x : ℕ). x ∷ cs) (sym (h .0)); rest = rw (h .0) (h .1) }
-
--- A stack of cells below n is empty exactly if its top is none of them.
-empty-top : (next : ℕ → ℕ) (n a : ℕ) (free : List ℕ) → n ≤ 4096 → All (λ (c : ℕ). c < n) free → Chain next a free → leb n a ≡ isEmpty free
-unfolding isEmpty
-empty-top next n a [] limit below h = le-leb n a (omega (arith, h))
-empty-top next n a (c ∷ cs) limit below h = lt-leb n a (omega (arith, h .0, below .0))
 
 module _ (h : Head) (w : List ℕ) (m : Model) (s : Shows h w m) where
   -- A free cell is one of the cells.

@@ -1,2 +1,3 @@
 -- Laws of the wheel.
 pub mod SetUpCases
+pub mod CallsShown

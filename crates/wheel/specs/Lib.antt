@@ -3,3 +3,4 @@ pub mod Answers
 pub mod Promise
 pub mod Rules
 pub mod SetUps
+pub mod Refiled
