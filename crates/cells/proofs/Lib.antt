@@ -21,3 +21,4 @@ pub mod Steps
 pub mod Rules
 pub mod Distinct
 pub mod Audits
+pub mod Framed

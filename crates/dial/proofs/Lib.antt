@@ -22,3 +22,4 @@ pub mod FiledShown
 pub mod Recording
 pub mod FiredShown
 pub mod HandingOut
+pub mod TurnsFramed

@@ -1,12 +1,10 @@
 -- No walk through lent words makes them more or fewer, or touches those past the last cell, whatever the words are.
 -- Assumes nothing.
-use Prim.Native.Nat.{ℕ, zero, suc, _+_, _-_, _*_, _/_}
+use Prim.Native.Nat.{ℕ, zero, suc, _+_, _-_, _*_}
 use mathlib.Core.List.{List}
-use mathlib.Core.Path.{_≡_, refl, _∙_}
-use lib.ListN.{length, drop}
 use lib.Dec.{eqb}
 use Rattle.cells.specs.Words.{word, putWord}
-use Rattle.cells.proofs.Places.{put-length, put-tail}
+use Rattle.cells.proofs.Framed.{Framed, framed-none, framed-on, framed-put}
 use Rattle.meaning.specs.Heap.{parent}
 use Rattle.heap.specs.Seats.{
   Walk,
@@ -29,20 +27,6 @@ use Rattle.heap.specs.Seats.{
 }
 use Rattle.heap.proofs.Permutes.{by-arms}
 use Rattle.heap.proofs.Seating.{seated-size, seated-tail}
-
--- As many words, and the last L mod 8 untouched.
-pub record Framed (w v : List ℕ) : Type 0 where
-  pub size : length v ≡ length w
-  pub tail : drop (length w / 8 * 8) v ≡ drop (length w / 8 * 8) w
-
-pub framed-none : (w : List ℕ) → Framed w w
-framed-none w = record { size = refl; tail = refl }
-
-pub framed-on : (w v u : List ℕ) → Framed w v → Framed v u → Framed w u
-framed-on w v u a b = record { size = b .size ∙ a .size; tail = rw (a .size) at (b .tail) ∙ a .tail }
-
-pub framed-put : (w : List ℕ) (c f v : ℕ) → Framed w (putWord w c f v)
-framed-put w c f v = record { size = put-length w c f v; tail = put-tail w c f v }
 
 framed-seat : (w : List ℕ) (p c : ℕ) → Framed w (seated w p c)
 framed-seat w p c = record { size = seated-size w p c; tail = seated-tail w p c }

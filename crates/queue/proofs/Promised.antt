@@ -7,7 +7,7 @@ use mathlib.Core.List.{List, map}
 use mathlib.Core.Path.{_≡_, refl, sym, ap, subst, _∙_}
 use lib.ListN.{length}
 use Rattle.cells.specs.Words.{word, putWord}
-use Rattle.cells.specs.Store.{noFree, spent, holdsTicket, drawAnswer, drawStore, claimAnswer, claimStore, claimWords, entered, wiped, releaseWords, releaseStore}
+use Rattle.cells.specs.Store.{noFree, spent, holdsTicket, drawAnswer, drawStore, claimAnswer, claimStore, claimWords, releaseWords, releaseStore}
 use Rattle.cells.specs.declared.store.Store.{Store}
 use Rattle.cells.specs.declared.store.ClaimAnswer.{ClaimAnswer}
 use Rattle.cells.specs.declared.store.ClaimAnswer.the-variants as claim
@@ -20,7 +20,8 @@ use Rattle.meaning.specs.Heap.{heapRemove, heapMoves}
 use Rattle.heap.specs.Seats.{Walk, enterWalk, vacateWalk, resettleWalk}
 use Rattle.heap.proofs.Walks.{Comes}
 use Rattle.heap.proofs.PublicWalks.{enter-comes, vacate-comes, resettle-comes}
-use Rattle.heap.proofs.Frames.{Framed, framed-none, framed-on, framed-put, enter-framed, vacate-framed, resettle-framed}
+use Rattle.cells.proofs.Framed.{Framed, framed-none, framed-on, framed-put, entered-framed, released-framed}
+use Rattle.heap.proofs.Frames.{enter-framed, vacate-framed, resettle-framed}
 use Rattle.queue.specs.Model.{Model}
 use Rattle.queue.specs.Shows.{Shows}
 use Rattle.queue.specs.Answers.{Told, told, refusal, handed}
@@ -47,26 +48,6 @@ stays call h w t h′ shown = framed-promise call h w t h′ w (framed-none w) s
 -- No model is shown by a head with more entries than there may be cells.
 pub over : (call : Call) (h : Head) (w : List ℕ) (t : Told) (h′ : Head) → 4096 < h .count → Promise call h w t h′ w
 over call h w t h′ l = stays call h w t h′ (λ m s. absurd (omega (arith, l, s .count, facts h w m s .fits, facts h w m s .limit)))
-
--- A claim or a release makes the words no more and no fewer, and leaves the last.
-entered-framed : (w : List ℕ) (c k key load : ℕ) → Framed w (entered w c k key load)
-unfolding entered
-entered-framed w c k key load =
-    framed-on w _ _
-    (framed-on w _ _
-    (framed-on w _ _ (framed-on w _ _ (framed-put w c 0 k) (framed-put _ c 1 k)) (framed-put _ c 2 key)) (framed-put _ c 3 load))
-    (framed-put _ c 4 0)
-
-released-framed : (w : List ℕ) (s : Store) (c : ℕ) → Framed w (releaseWords w s c)
-unfolding releaseWords wiped
-released-framed w s c =
-    framed-on w _ _
-    (framed-on w _ _
-    (framed-on w _ _
-    (framed-on w _ _
-    (framed-on w _ _ (framed-on w _ _ (framed-put w c 0 0) (framed-put _ c 1 0)) (framed-put _ c 2 0)) (framed-put _ c 3 0))
-    (framed-put _ c 5 0)) (framed-put _ c 7 0))
-    (framed-put _ c 4 (s .free))
 
 module _ (h : Head) (w : List ℕ) (key load : ℕ) where
   -- A put that the store refused.

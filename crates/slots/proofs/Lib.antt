@@ -8,3 +8,4 @@ pub mod Binary
 pub mod Changing
 pub mod AllRings
 pub mod Standing
+pub mod Framing
