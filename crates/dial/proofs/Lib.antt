@@ -23,3 +23,7 @@ pub mod Recording
 pub mod FiredShown
 pub mod HandingOut
 pub mod TurnsFramed
+pub mod ListSteps
+pub mod FileSteps
+pub mod FireSteps
+pub mod TurnSteps

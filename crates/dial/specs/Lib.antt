@@ -3,3 +3,4 @@ pub mod Joined
 pub mod Turns
 pub mod Shows
 pub mod Records
+pub mod Lent
