@@ -23,7 +23,7 @@ use Rattle.meaning.proofs.Handed.{hands-twice, outcome-free, advanced-roomy, ad
 use Rattle.meaning.proofs.Kept.{kept-hands}
 use Rattle.meaning.proofs.Timed.{advance-hands}
 use Rattle.meaning.proofs.Moves.{allMoves-append, allMoves-split}
-use Rattle.dial.proofs.Wakings.{wakes, Ahead, NextTick, entering, all-ahead, allMoves-due, allMoves-still, allMoves-entering, due-after}
+use Rattle.dial.proofs.Wakings.{wakes, Ahead, NextTick, all-ahead, allMoves-due, allMoves-still, due-after}
 
 -- How many entries are due at the clock,
 abbrev pub dueNow : Plain → ℕ
@@ -34,7 +34,7 @@ abbrev pub waiting : Plain → List Entry
 waiting s = drop (dueNow s) (s .entries)
 
 -- Where all are above a tick none is due by it.
-due-nothing : (t : ℕ) (es : List Entry) → All (λ (e : Entry). t < e .key) es → dueBy t es ≡ 0
+pub due-nothing : (t : ℕ) (es : List Entry) → All (λ (e : Entry). t < e .key) es → dueBy t es ≡ 0
 due-nothing t [] a = unfold dueBy in refl
 due-nothing t (e ∷ es) a = due-none t e es (a .0)
 
@@ -142,7 +142,7 @@ pub record Onward (b n target r t : ℕ) (d : Bool) (k c : ℕ) (s : Plain) : Ty
   pub same : advanced b n target r s ≡ handOut b n d (dueNow s + k) c s
   pub left : apply (hands (dueNow s + k) c) s ≡ apply (hands k c) (apply (hands (dueNow s) t) s)
   pub fired : map shown (take (dueNow s + k) (s .entries)) ≡ map shown (take (dueNow s) (s .entries)) ++ map shown (take k (waiting s))
-  pub moves : allMoves b n (s .clock) c (s .entries) ≡ entering b n (s .clock) t (waiting s) + allMoves b n t c (waiting s)
+  pub moves : allMoves b n (s .clock) c (s .entries) ≡ allMoves b n (s .clock) t (waiting s) + allMoves b n t c (waiting s)
 
 -- An advance that reaches the next wake tick t of the entries not due at its clock.
 module _
@@ -211,6 +211,5 @@ module _
                 arith,
                 allMoves-split b n c positive (dueNow s) t s timed later (between .0) (front-early b n s timed t later) waiting-late,
                 moves-waiting b n s timed t,
-                allMoves-entering b n (s .clock) t (waiting s) positive (waiting-ahead b n s timed kept) later (next .first),
               );
         }

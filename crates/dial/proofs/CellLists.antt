@@ -1,6 +1,6 @@
 -- In which list the cell of an entry stands, and what an entry less or more does to the lists.
 -- Assumes nothing.
-use Prim.Native.Nat.{ℕ, _≤_, _<_}
+use Prim.Native.Nat.{ℕ, _≤_}
 use native.Mathlib.Omega.{arith}
 use mathlib.Core.Bool.{Bool, true, false, cond}
 use mathlib.Core.List.{List, [], _∷_, _++_, map, append-nil}
@@ -13,31 +13,15 @@ use borrow.Author.Tests.{eq-eqb, ne-eqb}
 use Rattle.cells.specs.Lists.{times}
 use Rattle.cells.proofs.Cases.{same?}
 use Rattle.cells.proofs.Lists.{times-here}
-use Rattle.places.specs.Ticks.{digit}
-use Rattle.places.proofs.Levels.{level-bound}
-use Rattle.places.proofs.Wakes.{place-due, place-slot}
 use Rattle.meaning.specs.Entries.{Entry, names, named, without}
 use Rattle.meaning.proofs.Handles.{ticketOf, names-own, named-names, map-append, times-without}
 use Rattle.meaning.proofs.Stack.{cellOf}
-use Rattle.slots.specs.Stand.{dueList, putList, dropCell}
+use Rattle.slots.specs.Stand.{putList, dropCell}
 use Rattle.slots.proofs.Changing.{put?}
 use Rattle.slots.proofs.Linking.{drop-here, drop-past}
-use Rattle.dial.specs.Turns.{listNumber, listOf}
+use Rattle.dial.specs.Turns.{listOf}
 use Rattle.dial.specs.Shows.{passing, standing, cellsAt}
-
--- A deadline that is the clock is that of the due list,
-pub list-due : (t : ℕ) → listOf t t ≡ dueList
-unfolding listOf listNumber
-list-due t = rw (place-due 64 6 t)
-
--- any other that of a slot,
-pub list-slot : (t e : ℕ) → t ≢ e → listOf t e < dueList
-unfolding listOf listNumber digit
-list-slot t e d = rw (place-slot 64 6 t e d) (omega (arith, level-bound 64 6 t e))
-
--- so that no deadline has a list behind the due list.
-pub list-most : (t e : ℕ) → listOf t e ≤ dueList
-list-most t e = same? t e (λ s. rw (← s) (omega (arith, list-due t))) (λ d. omega (arith, list-slot t e d))
+use Rattle.dial.proofs.Passing.{passing-times}
 
 module _ (t i : ℕ) (e : Entry) (es : List Entry) where
   -- An entry in front stands first in the list of its place,
@@ -80,12 +64,8 @@ module _ (c k : ℕ) (e : Entry) (es : List Entry) (h : named c k es ≡ some e)
 module _ (t : ℕ) where
   -- No cell stands in a list more often than it is an entry's.
   pub cells-most : (c i : ℕ) (es : List Entry) → times c (cellsAt t es i) ≤ times c (map cellOf es)
-  unfolding times standing passing
-  cells-most c i [] = omega arith
-  cells-most c i (x ∷ xs) =
-      same? (listOf t (x .key)) i
-      (λ e. omega (arith, cells-most c i xs, ap (times c) (cells-here t i x xs e)))
-      (λ d. omega (arith, cells-most c i xs, ap (times c) (cells-past t i x xs d)))
+  unfolding standing
+  cells-most c i es = passing-times (λ (e : Entry). eqb (listOf t (e .key)) i) cellOf c es
 
   -- The entries of a list are those of the first part and those of the second.
   pub standing-append : (i : ℕ) (es fs : List Entry) → standing t i (es ++ fs) ≡ standing t i es ++ standing t i fs

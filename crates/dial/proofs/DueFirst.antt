@@ -1,9 +1,8 @@
 -- The first of the due list is the first of the plain list: no deadline is below the clock, and equal deadlines stand by rising order number.
 -- Assumes nothing.
-use Prim.Native.Nat.{ℕ, _*_, _+_, _≤_, _<_}
+use Prim.Native.Nat.{ℕ, _≤_, _<_}
 use native.Mathlib.Omega.{arith}
-use native.Mathlib.Nat.{mod-lt}
-use mathlib.Core.Bool.{Bool, true, false, cond}
+use mathlib.Core.Bool.{true, false}
 use mathlib.Core.List.{List, [], _∷_}
 use mathlib.Core.Logic.{_≢_}
 use mathlib.Core.Option.{some}
@@ -13,9 +12,6 @@ use borrow.Author.Tests.{eqb-true, eqb-false}
 use Rattle.cells.specs.Lists.{All}
 use Rattle.cells.proofs.Cases.{test, same?}
 use Rattle.cells.proofs.Lists.{all-map, all-both}
-use Rattle.places.specs.Ticks.{digit, level}
-use Rattle.places.proofs.Levels.{level-below}
-use Rattle.places.proofs.Wakes.{place-due, place-slot}
 use Rattle.slots.specs.Stand.{dueList}
 use Rattle.meaning.specs.Entries.{Entry, before, named, earliest}
 use Rattle.meaning.specs.Plain.{Plain}
@@ -25,46 +21,18 @@ use Rattle.meaning.proofs.Behind.{before-behind, behind-self}
 use Rattle.meaning.proofs.Arranged.{arranged-all}
 use Rattle.meaning.proofs.Unique.{all-named, earliest-is}
 use Rattle.dial.specs.Joined.{listed, Stable, Valid}
-use Rattle.dial.specs.Turns.{listNumber, listOf}
+use Rattle.dial.specs.Turns.{listOf}
 use Rattle.dial.specs.Shows.{passing, standing}
 use Rattle.dial.proofs.Listed.{listed-named}
 use Rattle.dial.proofs.Facts.{facts}
-
--- A deadline that is the clock stands in the due list,
-pub list-due : (t : ℕ) → listOf t t ≡ dueList
-unfolding listOf listNumber
-list-due t = rw (place-due 64 6 t)
-
--- and any other in a slot of the six levels of 64,
-pub list-slot : (t e : ℕ) → t ≢ e → listOf t e ≡ level 64 6 t e * 64 + digit 64 (level 64 6 t e) e
-unfolding listOf listNumber
-list-slot t e d = rw (place-slot 64 6 t e d)
-
--- whose number is below the due list's.
-pub list-below : (t e : ℕ) → t ≢ e → listOf t e < dueList
-list-below t e d =
-    let low : digit 64 (level 64 6 t e) e < 64 = unfold digit in mod-lt _ (omega arith) in
-    omega (arith, list-slot t e d, level-below 64 6 t e (omega arith))
-
--- So only a deadline that is the clock stands in the due list.
-pub list-only : (t e : ℕ) → listOf t e ≡ dueList → t ≡ e
-list-only t e q = same? t e (λ s. s) (λ d. absurd (omega (arith, list-below t e d)))
-
--- What holds of all entries holds of those that pass a test.
-pub passing-all : (P : Entry → Type 0) (check : Entry → Bool) (es : List Entry) → All P es → All P (passing check es)
-unfolding passing
-passing-all P check [] a = tt
-passing-all P check (e ∷ es) a = go (check e) (passing-all P check es (a .1))
-  where
-    go : (t : Bool) → All P (passing check es) → All P (cond t (e ∷ passing check es) (passing check es))
-    go true r = (a .0, r)
-    go false r = r
+use Rattle.dial.proofs.Numbers.{number-due, number-only}
+use Rattle.dial.proofs.Passing.{passing-all}
 
 -- What holds of all entries holds of the first of a list.
 pub first-all : (P : Entry → Type 0) (t i : ℕ) (e : Entry) (rest es : List Entry) → standing t i es ≡ e ∷ rest → All P es → P e
 unfolding standing
 first-all P t i e rest es q a =
-    let both : All P (e ∷ rest) = rw q at (passing-all P (λ (x : Entry). eqb (listOf t (x .key)) i) es a) in
+    let both : All P (e ∷ rest) = rw q at (passing-all (λ (x : Entry). eqb (listOf t (x .key)) i) P es a) in
     both .0
 
 -- An entry at the clock is before all that joined after it.
@@ -88,12 +56,12 @@ due-leads t e rest (x ∷ xs) a s q =
     (λ y.
     let whole : x ∷ standing t dueList xs ≡ e ∷ rest = rw y at q in
     let same : x ≡ e = cc in
-    let key : t ≡ x .key = list-only t (x .key) (eqb-true (listOf t (x .key)) dueList y) in
+    let key : t ≡ x .key = number-only t (x .key) (eqb-true (listOf t (x .key)) dueList y) in
     rw (← same) (key, (behind-self x, clock-first t x xs key (a .1) (s .0))))
     (λ n.
     let further : standing t dueList xs ≡ e ∷ rest = rw n at q in
     let two = due-leads t e rest xs (a .1) (s .1) further in
-    let other : t ≢ x .key = λ k. eqb-false (listOf t (x .key)) dueList n (rw (← k) (list-due t)) in
+    let other : t ≢ x .key = λ k. eqb-false (listOf t (x .key)) dueList n (number-due t (x .key) k) in
     (two .0, (before-behind e x (before-key e x (omega (arith, two .0, a .0))), two .1)))
 
 -- The first of the due list is the first of the plain list, and its handle names it.

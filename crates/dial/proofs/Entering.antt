@@ -11,13 +11,12 @@ use lib.ListN.{length}
 use borrow.Author.Tests.{eqb-true, eqb-false, eq-eqb, ne-eqb, not-true}
 use Rattle.cells.proofs.Cases.{clash}
 use Rattle.cells.proofs.Lists.{all-map, all-both}
-use Rattle.cells.proofs.Sums.{all-standing}
+use Rattle.cells.proofs.Sums.{all-standing, cond-bit}
 use Rattle.cells.proofs.Chains.{chain-links}
 use Rattle.cells.specs.Lists.{All, times, sumOf}
 use Rattle.cells.specs.Stack.{noCell, link}
 use Rattle.cells.specs.Words.{word}
 use Rattle.cells.specs.declared.store.Store.{Store}
-use Rattle.places.specs.Ticks.{lastTick}
 use Rattle.places.proofs.Digits.{tick-below, tick-upto}
 use Rattle.slots.specs.Rings.{Lists, emptySlot}
 use Rattle.slots.specs.Stand.{dueList, endsAt, hasCells, putList, Relinked}
@@ -29,60 +28,21 @@ use Rattle.meaning.specs.Entries.{Entry}
 use Rattle.meaning.specs.Plain.{Plain}
 use Rattle.meaning.specs.Calls.{allMoves}
 use Rattle.meaning.specs.Kept.{Within}
-use Rattle.meaning.proofs.Arranged.{arranged-all}
 use Rattle.meaning.proofs.Stack.{cellOf}
-use Rattle.dial.specs.Joined.{listed, Valid}
+use Rattle.dial.specs.Joined.{Valid}
 use Rattle.dial.specs.Turns.{listOf, State, turned, enter, wakeAt}
-use Rattle.dial.specs.Shows.{passing, standing, cellsAt, Carried, Shows}
+use Rattle.dial.specs.Shows.{passing, standing, cellsAt, Shows}
+use Rattle.dial.proofs.StableKept.{atClock, valid-clock}
 use Rattle.dial.proofs.Numbers.{Turned, wake-after, wake-until, wake-turns, turned-until}
-use Rattle.dial.proofs.Passing.{passing-none, passing-empty, passing-all, passing-true, passing-length, passing-times, none-below}
+use Rattle.dial.proofs.Passing.{no-entries, passing-none, passing-empty, passing-all, passing-length}
+use Rattle.dial.proofs.ListTicks.{one-has, first-low, first-some}
+use Rattle.dial.proofs.CellLists.{cells-most}
+use Rattle.dial.proofs.Holding.{carried-frame}
 use Rattle.dial.proofs.Turning.{standing-due, turned-lists}
 use Rattle.dial.proofs.Moving.{walked-moves}
 use Rattle.dial.proofs.Walking.{Ahead, Walked, walk-walked}
 
--- The model at another clock.
-abbrev pub clocked : ℕ → Plain → Plain
-clocked t m = record { entries = m .entries; clock = t; counter = m .counter; cells = m .cells; free = m .free }
-
--- It keeps to the rules if no deadline is below that clock.
-pub valid-clocked : (t : ℕ) (m : Plain) → t ≤ lastTick 64 6 → All (Within 64 6 t) (m .entries) → Valid m → Valid (clocked t m)
-unfolding listed
-valid-clocked t m h within v =
-    record {
-      kept =
-          record {
-            ordered = v .kept .ordered;
-            cells = v .kept .cells;
-            numbered = v .kept .numbered;
-            tickets = v .kept .tickets;
-            orders = v .kept .orders;
-            counted = v .kept .counted;
-            counts = v .kept .counts;
-            sized = v .kept .sized;
-            fits = v .kept .fits;
-          };
-      timed = record { clock = h; deadlines = arranged-all (Within 64 6 t) (m .entries) within };
-      stable = v .stable;
-    }
-
--- A list without cells is one of no entries,
-no-entries : (ws : List Entry) → hasCells (map cellOf ws) ≡ false → ws ≡ []
-unfolding hasCells
-no-entries [] e = refl
-no-entries (w ∷ ws) e = clash refl e
-
--- and what follows from one of its entries follows from a list with cells.
-some-entry :
-    {Q : Type 0} (P : Entry → Type 0) (ws : List Entry)
-    → hasCells (map cellOf ws) ≡ true
-    → All P ws
-    → ((x : Entry) → P x → Q)
-    → Q
-unfolding hasCells
-some-entry P [] e all f = clash e refl
-some-entry P (w ∷ ws) e all f = f w (all .0)
-
--- It has at least one.
+-- A list with cells has at least one.
 some-length : (ws : List Entry) → hasCells (map cellOf ws) ≡ true → 1 ≤ length ws
 unfolding hasCells
 some-length [] e = clash e refl
@@ -123,7 +83,7 @@ due-idle l t store m s late = (
 
 -- What entering the wake tick t of list i has done to lists, clock and store that show a model: they show it at clock t.
 pub record Entered (z z′ : State) (m : Plain) (t i : ℕ) : Type 0 where
-  pub shows : Shows (z′ .lists) (z′ .clock) (z′ .store) (clocked t m)
+  pub shows : Shows (z′ .lists) (z′ .clock) (z′ .store) (atClock m t)
   -- Only links of cells in use are written.
   pub relinked : Relinked (map cellOf (m .entries)) (z .lists .words) (z′ .lists .words)
   pub clock : z′ .clock ≡ t
@@ -147,23 +107,6 @@ pub record Entered (z z′ : State) (m : Plain) (t i : ℕ) : Type 0 where
 abbrev Waits : ℕ → Entry → Type 0
 Waits a e = (a < e .key) × (e .key < 64 ^ 6)
 
--- A count of one or none is at most one.
-cond-bit : (t : Bool) → cond t 1 0 ≤ 1
-cond-bit true = omega arith
-cond-bit false = omega arith
-
--- An entry's cell holds it where only links are written.
-carried-relinked : (xs w w′ : List ℕ) → Relinked xs w w′ → (e : Entry) → Carried w e → Carried w′ e
-carried-relinked xs w w′ r e h =
-    record {
-      ticket = r .fields (e .cell) 0 (λ s. omega arith) (λ s. omega arith) ∙ h .ticket;
-      order = r .fields (e .cell) 1 (λ s. omega arith) (λ s. omega arith) ∙ h .order;
-      deadline = r .fields (e .cell) 2 (λ s. omega arith) (λ s. omega arith) ∙ h .deadline;
-      load = r .fields (e .cell) 3 (λ s. omega arith) (λ s. omega arith) ∙ h .load;
-      unowned = r .fields (e .cell) 6 (λ s. omega arith) (λ s. omega arith) ∙ h .unowned;
-      unused = r .fields (e .cell) 7 (λ s. omega arith) (λ s. omega arith) ∙ h .unused;
-    }
-
 -- List i is the first with entries, nothing is due, and t is the wake tick of list i.
 module _ (z : State) (m : Plain) (shows : Shows (z .lists) (z .clock) (z .store) m)
     (split : (c : ℕ) → times c (map cellOf (m .entries)) + times c (m .free) ≡ cond (ltb c (m .cells)) 1 0)
@@ -179,23 +122,15 @@ module _ (z : State) (m : Plain) (shows : Shows (z .lists) (z .clock) (z .store)
 
   -- none stands in a list of a lower number,
   lowest : All (λ (e : Entry). i ≤ listOf (m .clock) (e .key)) (m .entries)
-  unfolding standing
-  lowest =
-      none-below (λ (e : Entry). listOf (m .clock) (e .key)) i (m .entries)
-      (λ j k.
-      passing-empty (λ (e : Entry). eqb (listOf (m .clock) (e .key)) j) (m .entries)
-      (no-entries (standing (m .clock) j (m .entries)) (first .below j k)))
+  lowest = first-low (m .clock) (m .entries) i first
 
   -- and some stands in list i.
   from-one : {Q : Type 0} → ((x : Entry) → Waits (m .clock) x → listOf (m .clock) (x .key) ≡ i → Q) → Q
-  unfolding standing
   from-one f =
-      some-entry (λ (x : Entry). Waits (m .clock) x × (eqb (listOf (m .clock) (x .key)) i ≡ true)) (standing (m .clock) i (m .entries))
-      (first .there slot)
-      (all-both (Waits (m .clock)) (λ (x : Entry). eqb (listOf (m .clock) (x .key)) i ≡ true) (standing (m .clock) i (m .entries))
-      (passing-all (λ (x : Entry). eqb (listOf (m .clock) (x .key)) i) (Waits (m .clock)) (m .entries) waiting)
-      (passing-true (λ (x : Entry). eqb (listOf (m .clock) (x .key)) i) (m .entries)))
-      (λ x p. f x (p .0) (eqb-true (listOf (m .clock) (x .key)) i (p .1)))
+      let (x, (p, q)) =
+      one-has (Waits (m .clock)) (λ (e : Entry). listOf (m .clock) (e .key)) i (m .entries) waiting
+      (first-some (m .clock) (m .entries) i first slot) in
+      f x p q
 
   -- The clock is the model's.
   wakes-at : t ≡ wakeAt (m .clock) i
@@ -219,21 +154,13 @@ module _ (z : State) (m : Plain) (shows : Shows (z .lists) (z .clock) (z .store)
   all-until : All (λ (e : Entry). t ≤ e .key) (m .entries)
   all-until = all-map (λ e r. turned-until r) (m .entries) all-turned
 
-  -- Deadlines are ticks from there on,
-  within-tick : All (Within 64 6 t) (m .entries)
-  within-tick =
-      all-map (λ e p. record { late = p .0; last = p .1 .last }) (m .entries)
-      (all-both (λ (e : Entry). t ≤ e .key) (Within 64 6 (m .clock)) (m .entries) all-until within)
-
-  -- so that the model keeps to the rules at that clock.
-  valid : Valid (clocked t m)
+  -- So the model keeps to the rules at that clock.
+  valid : Valid (atClock m t)
   valid =
-      valid-clocked t m
+      valid-clock m t (shows .valid) all-until
       (from-one
       (λ x p s.
       tick-upto 64 6 t (omega (arith, p .1, wakes-at, rw s at (wake-until (m .clock) (x .key) (p .0) (p .1))))))
-      within-tick
-      (shows .valid)
 
   -- The walk starts with list i emptied: its cells stand in no list, and still link to each other.
   ahead : Ahead (turned z (emptySlot (z .lists) i) t) (putList (cellsAt (m .clock) (m .entries)) i []) (map cellOf (m .entries))
@@ -256,9 +183,9 @@ module _ (z : State) (m : Plain) (shows : Shows (z .lists) (z .clock) (z .store)
             put? lists i [] j (λ (ys : List ℕ). times x ys ≡ 0)
             (λ s. refl)
             (λ d. stand-apart (z .lists) lists (shows .lists) j i x u (omega arith) (λ s. d (sym s)) h);
-        walked = λ x h. omega (arith, among i x);
+        walked = λ x h. omega (arith, cells-most (m .clock) x i (m .entries));
         listed = λ j x u h.
-            put? lists i [] j (λ (ys : List ℕ). times x ys ≡ 0) (λ s. refl) (λ d. omega (arith, among j x));
+            put? lists i [] j (λ (ys : List ℕ). times x ys ≡ 0) (λ s. refl) (λ d. omega (arith, cells-most (m .clock) x j (m .entries)));
       }
     where
       lists : ℕ → List ℕ
@@ -266,9 +193,6 @@ module _ (z : State) (m : Plain) (shows : Shows (z .lists) (z .clock) (z .store)
 
       words : emptySlot (z .lists) i .words ≡ z .lists .words
       words = empty-words (z .lists) lists (shows .lists) i slot
-
-      among : (j x : ℕ) → times x (cellsAt (m .clock) (m .entries) j) ≤ times x (map cellOf (m .entries))
-      among j x = unfold standing in passing-times (λ (e : Entry). eqb (listOf (m .clock) (e .key)) j) cellOf x (m .entries)
 
   -- The walk has fuel enough: no list has more entries than there are cells.
   walked : Walked (turned z (emptySlot (z .lists) i) t) (enter t i z) (putList (cellsAt (m .clock) (m .entries)) i [])
@@ -296,7 +220,7 @@ module _ (z : State) (m : Plain) (shows : Shows (z .lists) (z .clock) (z .store)
   free-kept c f h = all-relinked .others c f (omega (arith, split c, cond-bit (ltb c (m .cells))))
 
   -- The lists are those of the entries at the wake tick, and everything else is as it was.
-  tick-shown : Shows (enter t i z .lists) t (z .store) (clocked t m)
+  tick-shown : Shows (enter t i z .lists) t (z .store) (atClock m t)
   unfolding turned
   tick-shown =
       record {
@@ -311,7 +235,7 @@ module _ (z : State) (m : Plain) (shows : Shows (z .lists) (z .clock) (z .store)
             (shows .free);
         blank = λ c f h d. free-kept c f h ∙ shows .blank c f h d;
         entries =
-            all-map (λ e. carried-relinked (map cellOf (m .entries)) (z .lists .words) (enter t i z .lists .words) all-relinked e)
+            all-map (λ e. carried-frame (z .lists .words) (enter t i z .lists .words) e (λ f d d′. all-relinked .fields (e .cell) f d d′))
             (m .entries)
             (shows .entries);
         lists =
@@ -344,5 +268,5 @@ module _ (z : State) (m : Plain) (shows : Shows (z .lists) (z .clock) (z .store)
         until = all-until;
         turned = all-turned;
         some = some-length (standing (m .clock) i (m .entries)) (first .there slot);
-        idle = due-idle (enter t i z .lists) t (z .store) (clocked t m) tick-shown all-until;
+        idle = due-idle (enter t i z .lists) t (z .store) (atClock m t) tick-shown all-until;
       }

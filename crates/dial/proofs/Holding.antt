@@ -25,7 +25,9 @@ use Rattle.slots.proofs.AllRings.{join-stands, leave-stands}
 use Rattle.slots.proofs.Changing.{stand-same, stand-frame}
 use Rattle.dial.specs.Turns.{listOf, withWords}
 use Rattle.dial.specs.Shows.{cellsAt, Carried}
-use Rattle.dial.proofs.CellLists.{list-most, list-at, cells-most, cells-join, cells-leave, named-cell, named-alone}
+use Rattle.dial.proofs.StableKept.{all-joined}
+use Rattle.dial.proofs.Numbers.{number-most}
+use Rattle.dial.proofs.CellLists.{list-at, cells-most, cells-join, cells-leave, named-cell, named-alone}
 
 -- What lists, clock and top of the free stack show of a model: entries and free cells.
 pub record Holds (l : Lists) (t top : ℕ) (es : List Entry) (free : List ℕ) : Type 0 where
@@ -55,11 +57,6 @@ carried-frame w w′ e same h =
       unowned = same 6 (omega arith) (omega arith) ∙ h .unowned;
       unused = same 7 (omega arith) (omega arith) ∙ h .unused;
     }
-
--- What holds of all and of one more.
-all-last : (P : Entry → Type 0) (es : List Entry) (e : Entry) → All P es → P e → All P (es ++ (e ∷ []))
-all-last P [] e h p = (p, tt)
-all-last P (x ∷ xs) e h p = (h .0, all-last P xs e (h .1) p)
 
 -- Other words in which the free cells' links are the same hold the same free stack.
 chain-kept : (w w′ : List ℕ) (top : ℕ) (free : List ℕ)
@@ -129,7 +126,7 @@ module _ (l : Lists) (t top : ℕ) (es : List Entry) (free : List ℕ) (h : Hold
     unfolding joined
     join-law =
         let r =
-        join-stands l (cellsAt t es) (h .lists) (listOf t (e .key)) (e .cell) (list-most t (e .key)) k
+        join-stands l (cellsAt t es) (h .lists) (listOf t (e .key)) (e .cell) (number-most t (e .key)) k
         (λ j u. loose-unlisted (e .cell) j n) in
         (stand-same joined _ (cellsAt t (es ++ (e ∷ []))) (λ i u. cells-join t e es i) (r .0), r .1)
 
@@ -160,7 +157,7 @@ module _ (l : Lists) (t top : ℕ) (es : List Entry) (free : List ℕ) (h : Hold
           blank = λ x f u d. join-free x f u ∙ h .blank x f u d;
           entries =
               all-map (λ x. carried-frame (l .words) (joined .words) x (λ f d d′. join-law .1 .fields (x .cell) f d d′)) (es ++ (e ∷ []))
-              (all-last (Carried (l .words)) es e (h .entries) p);
+              (all-joined (Carried (l .words)) es e (h .entries) p);
           lists = join-law .0;
         }
 
@@ -179,7 +176,7 @@ module _ (l : Lists) (t top : ℕ) (es : List Entry) (free : List ℕ) (h : Hold
     unfolding left
     leave-law =
         let r =
-        leave-stands l (cellsAt t es) (h .lists) (listOf t (e .key)) c (list-most t (e .key)) (list-at t c k e es here) in
+        leave-stands l (cellsAt t es) (h .lists) (listOf t (e .key)) c (number-most t (e .key)) (list-at t c k e es here) in
         (stand-same left _ (cellsAt t (without c k es)) (λ i u. cells-leave t c k e es here alone i) (r .0), r .1)
 
     -- Only links of that list are written.
@@ -189,7 +186,7 @@ module _ (l : Lists) (t top : ℕ) (es : List Entry) (free : List ℕ) (h : Hold
 
     -- The cell is one of the words.
     pub leaves-inside : c < length (l .words) / 8
-    leaves-inside = h .lists .inside (listOf t (e .key)) c (list-most t (e .key)) (list-at t c k e es here)
+    leaves-inside = h .lists .inside (listOf t (e .key)) c (number-most t (e .key)) (list-at t c k e es here)
 
     -- It is no entry's any more, and not free.
     pub leaves-loose : Loose c (without c k es) free

@@ -1,8 +1,7 @@
 -- An entry leaves a model that lists, clock and store show, and its cell goes on top of the free stack.
 -- Assumes nothing.
-use Prim.Native.Nat.{ℕ, zero, suc, _/_, _≤_, _<_}
+use Prim.Native.Nat.{ℕ, zero, suc, _/_, _<_}
 use native.Mathlib.Omega.{arith}
-use mathlib.Core.Bool.{Bool, true, false, cond}
 use mathlib.Core.List.{List, _∷_}
 use mathlib.Core.Logic.{_≢_}
 use mathlib.Core.Option.{some}
@@ -14,6 +13,7 @@ use Rattle.cells.specs.Words.{word}
 use Rattle.cells.specs.declared.store.Store.{Store}
 use Rattle.cells.proofs.Cases.{atMost?}
 use Rattle.cells.proofs.Memory.{word-no-field}
+use Rattle.cells.proofs.Sums.{cond-bit}
 use Rattle.cells.proofs.Rows.{Rewritten, releasedWord, released-words}
 use Rattle.meaning.specs.Entries.{Entry, named, without}
 use Rattle.meaning.specs.Plain.{Plain, frees}
@@ -27,18 +27,13 @@ use Rattle.dial.specs.Turns.{listOf, withWords}
 use Rattle.dial.specs.Shows.{Carried, Shows}
 use Rattle.dial.proofs.Holding.{Holds, Loose, holds-left, leaves-only, leaves-inside, leaves-loose, holds-rewritten, holds-freed}
 
--- A test counts at most once.
-bit-most : (b : Bool) → cond b 1 0 ≤ 1
-bit-most true = omega arith
-bit-most false = omega arith
-
 -- What is shown is held: no cell is two entries', or an entry's and free.
 pub shows-holds : (l : Lists) (t : ℕ) (store : Store) (m : Plain) → Shows l t store m
     → Holds l (m .clock) (store .free) (m .entries) (m .free)
 unfolding listed
 shows-holds l t store m s =
     record {
-      once = λ c. omega (arith, s .valid .kept .cells c, arranged-same (m .entries) cellOf c, bit-most (ltb c (m .cells)));
+      once = λ c. omega (arith, s .valid .kept .cells c, arranged-same (m .entries) cellOf c, cond-bit (ltb c (m .cells)));
       chain = s .free;
       blank = s .blank;
       entries = s .entries;

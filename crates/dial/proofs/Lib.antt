@@ -8,7 +8,6 @@ pub mod Wakings
 pub mod Advances
 pub mod ListTicks
 pub mod TickBound
-pub mod Entered
 pub mod Numbers
 pub mod Passing
 pub mod Turning
@@ -27,3 +26,6 @@ pub mod ListSteps
 pub mod FileSteps
 pub mod FireSteps
 pub mod TurnSteps
+pub mod StaysShown
+pub mod Advancing
+pub mod Advanced

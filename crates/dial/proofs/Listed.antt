@@ -1,11 +1,12 @@
 -- The wheel's model is a plain list but for its order: what a change does to entries in the order in which they joined it does to the plain list of them.
 -- Assumes nothing.
-use Prim.Native.Nat.{ℕ, zero, suc, _≤_}
+use Prim.Native.Nat.{ℕ, zero, suc, _+_, _≤_}
 use native.Mathlib.Omega.{arith}
 use mathlib.Core.List.{List, [], _∷_, _++_, map}
 use mathlib.Core.Option.{some}
-use mathlib.Core.Path.{_≡_, refl, sym, ap, _∙_}
-use lib.ListN.{drop}
+use mathlib.Core.Path.{_≡_, refl, ap, _∙_}
+use lib.ListN.{take, drop}
+use lib.Seq.{take-add}
 use Rattle.cells.specs.Lists.{All, times}
 use Rattle.cells.proofs.Lists.{times-append}
 use Rattle.meaning.specs.Entries.{Entry, named, without, earliest, Ordered}
@@ -15,12 +16,14 @@ use Rattle.meaning.specs.Calls.{Call, outcome, result}
 use Rattle.meaning.specs.Kept.{Kept}
 use Rattle.meaning.proofs.Orders.{times-insert}
 use Rattle.meaning.proofs.Handles.{ticketOf, map-append, times-without}
+use Rattle.meaning.proofs.Stack.{onto-append}
 use Rattle.meaning.proofs.Same.{same-length, same-named, named-head}
 use Rattle.meaning.proofs.Arranged.{arranged-same}
-use Rattle.meaning.proofs.Unique.{same-all, arranged-is}
+use Rattle.meaning.proofs.Unique.{arranged-is}
 use Rattle.meaning.proofs.Allowed.{Allowed, allowed, found}
 use Rattle.meaning.proofs.Reached.{kept-apply}
 use Rattle.dial.specs.Joined.{listed, remaining, joins, step}
+use Rattle.dial.proofs.AnyOrder.{all-arranged}
 
 -- A model of its parts.
 abbrev plainOf : (entries : List Entry) (clock counter cells : ℕ) (free : List ℕ) → Plain
@@ -76,7 +79,8 @@ listed-same m = arranged-same (m .entries)
 
 -- What holds of all of the plain list holds of all entries.
 pub listed-all : (P : Entry → Type 0) (m : Plain) → All P (listed m .entries) → All P (m .entries)
-listed-all P m a = same-all P (listed m .entries) (m .entries) (λ f k. sym (listed-same m f k)) a
+unfolding listed
+listed-all P m a = all-arranged P (m .entries) a
 
 module _ (m : Plain) (kept : Kept (listed m)) where
   -- Tickets differ.
@@ -143,6 +147,30 @@ hands-more m k t e rest kept q =
     let others : arranged (without (e .cell) (e .ticket) (m .entries)) ≡ rest =
     arranged-is (without (e .cell) (e .ticket) (m .entries)) rest (rest-same (m .entries) e rest s (u (e .ticket))) (o .1) (λ j. omega (arith, v j)) in
     plain-same _ _ (rw q) refl refl refl (rw (q, others))
+
+-- j entries taken out and then k more are j + k of them.
+remaining-add : (j k : ℕ) (es : List Entry) → remaining k (remaining j es) ≡ remaining (j + k) es
+unfolding remaining
+remaining-add zero k es = let none : 0 + k ≡ k = omega arith in rw none
+remaining-add (suc j) k es =
+    let e : Entry = earliest (arranged es) in
+    let more : suc j + k ≡ suc (j + k) = omega arith in
+    rw more (remaining-add j k (without (e .cell) (e .ticket) es))
+
+module _ (m : Plain) (kept : Kept (listed m)) where
+  -- The plain list of those that are left is the rest of the plain list.
+  pub arranged-hands : (k : ℕ) → arranged (remaining k (m .entries)) ≡ drop k (arranged (m .entries))
+  unfolding listed joins apply
+  arranged-hands k = joins-entries m kept (hands k (m .clock)) tt
+
+  -- Two hand-outs are one.
+  pub joins-hands : (j a k c : ℕ) → joins (hands k c) (joins (hands j a) m) ≡ joins (hands (j + k) c) m
+  unfolding joins
+  joins-hands j a k c =
+      let os : List Entry = arranged (m .entries) in
+      let free : onto (take k (arranged (remaining j (m .entries)))) (onto (take j os) (m .free)) ≡ onto (take (j + k) os) (m .free) =
+      rw (arranged-hands j, take-add j k os, onto-append (take j os) (take k (drop j os)) (m .free)) in
+      plain-same _ _ (remaining-add j k (m .entries)) refl refl refl free
 
 -- A call answers as on the plain list, and leaves a model of the list afterwards.
 pub step-plain : (call : Call) (m : Plain) → Kept (listed m)

@@ -46,6 +46,9 @@ due-test t e =
     (λ d.
     ne-eqb (listOf t e) dueList (λ s. omega (arith, number-below t e d)) ∙ sym (ne-eqb e t (λ s. d (sym s))))
 
+pub number-only : (t e : ℕ) → listOf t e ≡ dueList → t ≡ e
+number-only t e q = same? t e (λ s. s) (λ d. absurd (omega (arith, number-below t e d)))
+
 -- A list's number tells its level and slot, and so its wake tick.
 pub wake-number : (t e : ℕ) → t ≢ e → wakeAt t (listOf t e) ≡ wakeOf 64 t (place 64 6 t e)
 unfolding wakeAt wakeOf
@@ -100,7 +103,7 @@ wake-slots a i j q l h = rw q (omega (arith, mul-lt-mul-of-pos-right l h))
 
 module _ (a x e : ℕ) (hx : a < x) (lx : x < 64 ^ 6) (he : a < e) (le : e < 64 ^ 6) (l : listOf a x < listOf a e) where
   -- and of any two lists that of the lower number.
-  wake-order : wakeAt a (listOf a x) < wakeAt a (listOf a e)
+  pub wake-order : wakeAt a (listOf a x) < wakeAt a (listOf a e)
   wake-order =
       atMost? (level 64 6 a e) (level 64 6 a x)
       (λ k.

@@ -10,8 +10,15 @@ use lib.ListN.{length}
 use borrow.Author.Tests.{eq-eqb}
 use Rattle.cells.proofs.Cases.{clash, atMost?}
 use Rattle.cells.specs.Lists.{All, times}
+use Rattle.slots.specs.Stand.{hasCells}
 use Rattle.meaning.specs.Entries.{Entry}
 use Rattle.dial.specs.Shows.{passing}
+
+-- A list without cells is one of no entries.
+pub no-entries : (ws : List Entry) → hasCells (map (λ (e : Entry). e .cell) ws) ≡ false → ws ≡ []
+unfolding hasCells
+no-entries [] e = refl
+no-entries (w ∷ ws) e = clash refl e
 
 -- None passes a test that fails at each,
 pub passing-none : (test : Entry → Bool) (es : List Entry) → All (λ (e : Entry). test e ≡ false) es → passing test es ≡ []
@@ -54,7 +61,7 @@ passing-both r s (e ∷ es) = go (r e) (passing-both r s es)
     go false q = q
 
 module _ (test : Entry → Bool) where
-  -- What holds of each entry holds of each that passes,
+  -- What holds of each entry holds of each that passes.
   pub passing-all : (P : Entry → Type 0) (es : List Entry) → All P es → All P (passing test es)
   unfolding passing
   passing-all P [] h = tt
@@ -63,20 +70,6 @@ module _ (test : Entry → Bool) where
       go : (b : Bool) → All P (passing test es) → All P (cond b (e ∷ passing test es) (passing test es))
       go true more = (h .0, more)
       go false more = more
-
-  -- and the test does.
-  pub passing-true : (es : List Entry) → All (λ (e : Entry). test e ≡ true) (passing test es)
-  unfolding passing
-  passing-true [] = tt
-  passing-true (e ∷ es) = go (test e) refl (passing-true es)
-    where
-      go :
-          (b : Bool)
-          → test e ≡ b
-          → All (λ (x : Entry). test x ≡ true) (passing test es)
-          → All (λ (x : Entry). test x ≡ true) (cond b (e ∷ passing test es) (passing test es))
-      go true q more = (q, more)
-      go false q more = more
 
   -- They are no more than there are entries,
   pub passing-length : (es : List Entry) → length (passing test es) ≤ length es

@@ -5,7 +5,7 @@ use mathlib.Core.Bool.{Bool, true, false, cond}
 use mathlib.Core.List.{List, [], _∷_, _++_}
 use mathlib.Core.Path.{_≡_, sym, subst}
 use Rattle.cells.specs.Lists.{All}
-use Rattle.cells.proofs.Lists.{all-map, all-both}
+use Rattle.cells.proofs.Lists.{all-map, all-drop, all-both}
 use Rattle.places.specs.Ticks.{lastTick}
 use Rattle.meaning.specs.Entries.{Entry, names, named, without, earliest}
 use Rattle.meaning.specs.Plain.{Plain, filed, refiled, Change, stays, files, refiles, frees, hands, apply}
@@ -97,6 +97,16 @@ valid-frees m c k v live =
     (record {
       clock = v .timed .clock;
       deadlines = all-without c k (Within 64 6 (m .clock)) (arranged (m .entries)) (v .timed .deadlines);
+    })
+
+-- So do the first k handed out at the clock.
+pub valid-hands : (m : Plain) (k : ℕ) → Valid m → Valid (joins (hands k (m .clock)) m)
+unfolding listed apply
+valid-hands m k v =
+    valid-joins m (hands k (m .clock)) v tt
+    (record {
+      clock = v .timed .clock;
+      deadlines = all-drop (Within 64 6 (m .clock)) k (arranged (m .entries)) (v .timed .deadlines);
     })
 
 -- The model at another clock.

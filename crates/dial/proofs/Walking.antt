@@ -8,7 +8,7 @@ use mathlib.Core.Logic.{_≢_}
 use mathlib.Core.Path.{_≡_, refl, sym, _∙_}
 use lib.Dec.{eqb}
 use lib.ListN.{length}
-use borrow.Author.Tests.{eq-eqb, ne-eqb}
+use borrow.Author.Tests.{ne-eqb}
 use Rattle.cells.proofs.Lists.{all-map, times-here, times-past, times-append}
 use Rattle.cells.proofs.Sums.{all-standing}
 use Rattle.cells.proofs.Chains.{chain-links}
@@ -24,15 +24,7 @@ use Rattle.meaning.proofs.Stack.{cellOf}
 use Rattle.dial.specs.Turns.{listOf, State, refile, walk}
 use Rattle.dial.specs.Shows.{passing, standing, cellsAt}
 use Rattle.dial.proofs.Numbers.{number-most, due-test}
-
--- The first entry stands in the list of its place, and in no other.
-pub standing-here : (t j : ℕ) (e : Entry) (es : List Entry) → listOf t (e .key) ≡ j → standing t j (e ∷ es) ≡ e ∷ standing t j es
-unfolding standing passing
-standing-here t j e es s = rw (eq-eqb (listOf t (e .key)) j s)
-
-pub standing-past : (t j : ℕ) (e : Entry) (es : List Entry) → listOf t (e .key) ≢ j → standing t j (e ∷ es) ≡ standing t j es
-unfolding standing passing
-standing-past t j e es d = rw (ne-eqb (listOf t (e .key)) j d)
+use Rattle.dial.proofs.CellLists.{standing-here, standing-past}
 
 -- What is to be walked: lists that stand, and from cell c on the cells of the entries ws, linked by their words 4, which stand in no list. All are cells of xs.
 pub record Ahead (z : State) (ls : ℕ → List ℕ) (xs : List ℕ) (c : ℕ) (ws : List Entry) : Type 0 where
