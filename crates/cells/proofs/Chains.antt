@@ -56,3 +56,14 @@ module _ (next : ℕ → ℕ) where
 pub chain-links : (next next′ : ℕ → ℕ) (a : ℕ) (cs : List ℕ) → All (λ (c : ℕ). next c ≡ next′ c) cs → Chain next a cs → Chain next′ a cs
 chain-links next next′ a [] e h = h
 chain-links next next′ a (c ∷ cs) e h = (h .0, chain-links next next′ (next′ c) cs (e .1) (rw (e .0) at (h .1)))
+
+-- Links through the same cells start at the same cell.
+pub chain-tops : (next next′ : ℕ → ℕ) (a a′ : ℕ) (cs : List ℕ) → Chain next a cs → Chain next′ a′ cs → a ≡ a′
+chain-tops next next′ a a′ [] h k = h ∙ sym k
+chain-tops next next′ a a′ (c ∷ cs) h k = h .0 ∙ sym (k .0)
+
+-- They are the same links.
+pub chain-alike : (next next′ : ℕ → ℕ) (a a′ : ℕ) (cs : List ℕ) → Chain next a cs → Chain next′ a′ cs → All (λ (c : ℕ). next c ≡ next′ c) cs
+chain-alike next next′ a a′ [] h k = tt
+chain-alike next next′ a a′ (c ∷ cs) h k =
+    (chain-tops next next′ (next c) (next′ c) cs (h .1) (k .1), chain-alike next next′ (next c) (next′ c) cs (h .1) (k .1))

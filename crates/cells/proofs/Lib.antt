@@ -19,6 +19,8 @@ pub mod Stacks
 pub mod StackTable
 pub mod Steps
 pub mod Rules
+pub mod Used
+pub mod Masks
 pub mod Distinct
 pub mod Audits
 pub mod Framed

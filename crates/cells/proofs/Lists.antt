@@ -95,3 +95,13 @@ module _ {A : Type 0} where
   pub all-read : (P : ℕ → Type 0) (f : A → ℕ) (xs : List A) → All P (map f xs) → All (λ (x : A). P (f x)) xs
   all-read P f [] h = tt
   all-read P f (x ∷ xs) h = (h .0, all-read P f xs (h .1))
+
+-- What holds of the image of each element holds of each image,
+pub all-image : {A B : Type 0} (P : B → Type 0) (f : A → B) (xs : List A) → All (λ (x : A). P (f x)) xs → All P (map f xs)
+all-image P f [] h = tt
+all-image P f (x ∷ xs) h = (h .0, all-image P f xs (h .1))
+
+-- and what holds in two lists holds in one behind the other.
+pub all-append : {A : Type 0} (P : A → Type 0) (xs ys : List A) → All P xs → All P ys → All P (xs ++ ys)
+all-append P [] ys h k = k
+all-append P (x ∷ xs) ys h k = (h .0, all-append P xs ys (h .1) k)

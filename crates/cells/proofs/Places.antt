@@ -1,6 +1,6 @@
 -- What a read finds after a write, and when two memories are the same.
 -- Assumes nothing.
-use Prim.Native.Nat.{ℕ, _+_, _*_, _/_, _%_, _-_, _≤_, _<_}
+use Prim.Native.Nat.{ℕ, zero, suc, _+_, _*_, _/_, _%_, _-_, _≤_, _<_}
 use native.Mathlib.Omega.{arith}
 use mathlib.Core.Bool.{Bool, true, false, cond, _&&_}
 use mathlib.Core.List.{List}
@@ -91,3 +91,15 @@ words-ext w w′ e same tail = ext-getD 0 w w′ e (λ i h. at i)
         atMost? m i
         (λ k. sym (past w i k) ∙ ap (λ (x : List ℕ). getD x (i - m) 0) tail ∙ past w′ i k)
         (λ k. sym (word-at w i k) ∙ same (i / 8) (i % 8) (omega arith) (omega arith) ∙ word-at w′ i (rw e at k))
+
+-- What holds of each of the eight fields holds of every field.
+pub each-field : (P : ℕ → Type 0) → P 0 → P 1 → P 2 → P 3 → P 4 → P 5 → P 6 → P 7 → (f : ℕ) → f < 8 → P f
+each-field P a b c d e g i j zero l = a
+each-field P a b c d e g i j (suc zero) l = b
+each-field P a b c d e g i j (suc (suc zero)) l = c
+each-field P a b c d e g i j (suc (suc (suc zero))) l = d
+each-field P a b c d e g i j (suc (suc (suc (suc zero)))) l = e
+each-field P a b c d e g i j (suc (suc (suc (suc (suc zero))))) l = g
+each-field P a b c d e g i j (suc (suc (suc (suc (suc (suc zero)))))) l = i
+each-field P a b c d e g i j (suc (suc (suc (suc (suc (suc (suc zero))))))) l = j
+each-field P a b c d e g i j (suc (suc (suc (suc (suc (suc (suc (suc f)))))))) l = absurd (omega arith)

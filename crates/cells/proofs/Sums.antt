@@ -61,7 +61,7 @@ unfolding sumBelow
 sumBelow-past x zero h = refl
 sumBelow-past x (suc n) h = rw (ne-eqb x n (λ e. omega arith)) (omega (arith, sumBelow-past x n (omega arith)))
 
-sumBelow-one : (x n : ℕ) → x < n → sumBelow (λ (y : ℕ). cond (eqb x y) 1 0) n ≡ 1
+pub sumBelow-one : (x n : ℕ) → x < n → sumBelow (λ (y : ℕ). cond (eqb x y) 1 0) n ≡ 1
 unfolding sumBelow
 sumBelow-one x zero h = absurd (omega arith)
 sumBelow-one x (suc n) h =

@@ -10,6 +10,7 @@ pub mod ListTicks
 pub mod TickBound
 pub mod Numbers
 pub mod Passing
+pub mod Selected
 pub mod Turning
 pub mod Moving
 pub mod Walking

@@ -71,6 +71,20 @@ module _ (test : Entry → Bool) where
       go true more = (h .0, more)
       go false more = more
 
+  -- The test holds of those that pass it.
+  pub passing-true : (es : List Entry) → All (λ (e : Entry). test e ≡ true) (passing test es)
+  unfolding passing
+  passing-true [] = tt
+  passing-true (e ∷ es) = go (test e) refl (passing-true es)
+    where
+      go :
+          (b : Bool)
+          → test e ≡ b
+          → All (λ (x : Entry). test x ≡ true) (passing test es)
+          → All (λ (x : Entry). test x ≡ true) (cond b (e ∷ passing test es) (passing test es))
+      go true q more = (q, more)
+      go false q more = more
+
   -- They are no more than there are entries,
   pub passing-length : (es : List Entry) → length (passing test es) ≤ length es
   unfolding passing

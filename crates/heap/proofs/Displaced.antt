@@ -11,6 +11,7 @@ use Rattle.cells.proofs.Lists.{times-here, times-past}
 use Rattle.cells.proofs.Distinct.{all-times}
 use Rattle.meaning.specs.Entries.{Entry}
 use Rattle.meaning.specs.Heap.{at, exchange, rise, sink, settle}
+use Rattle.meaning.proofs.ByPosition.{one-position}
 use Rattle.heap.proofs.Permutes.{times-exchange}
 use Rattle.heap.proofs.Exchanges.{length-exchange, at-exchange-first, at-exchange-second, at-exchange-other}
 use Rattle.heap.proofs.Paths.{along, end, risen, sunk, settled, Path, rise-along, sink-along, settle-along, risen-path, sunk-path, settled-path}
@@ -199,26 +200,6 @@ along-came p q (s ∷ ss) h t r i =
     (along-came q s ss l on r (omega (arith, times-past r p (q ∷ (s ∷ ss)) n))))
 
 module _ (f : Entry → ℕ) where
-  -- The number of an entry stands in the list of the numbers.
-  pub at-stands : (h : List Entry) (r : ℕ) → r < length h → 1 ≤ times (f (at h r)) (map f h)
-  unfolding at times
-  at-stands [] r i = absurd (omega arith)
-  at-stands (x ∷ xs) zero i = omega (arith, times-here (f x) (f x) (map f xs) refl)
-  at-stands (x ∷ xs) (suc r) i = omega (arith, at-stands xs r (omega arith))
-
-  -- Where numbers differ, a number is that of one position only.
-  pub one-position : (h : List Entry) → ((k : ℕ) → times k (map f h) ≤ 1) → (r s : ℕ) → r < length h → s < length h
-      → f (at h r) ≡ f (at h s) → r ≡ s
-  unfolding at times
-  one-position [] u r s i j e = absurd (omega arith)
-  one-position (x ∷ xs) u zero zero i j e = refl
-  one-position (x ∷ xs) u zero (suc s) i j e =
-      absurd (omega (arith, u (f x), times-here (f x) (f x) (map f xs) refl, rw (← e) at (at-stands xs s (omega arith))))
-  one-position (x ∷ xs) u (suc r) zero i j e =
-      absurd (omega (arith, u (f x), times-here (f x) (f x) (map f xs) refl, rw e at (at-stands xs r (omega arith))))
-  one-position (x ∷ xs) u (suc r) (suc s) i j e =
-      ap suc (one-position xs (λ k. omega (arith, u k)) r s (omega arith) (omega arith) e)
-
   -- Where numbers differ, another stands after at every position of a path of two or more.
   pub along-differs : (p q : ℕ) (qs : List ℕ) (h : List Entry) → Path (length h) p (q ∷ qs)
       → ((k : ℕ) → times k (map f h) ≤ 1)
@@ -226,7 +207,7 @@ module _ (f : Entry → ℕ) where
   along-differs p q qs h t u r i e =
       let c = along-came p q qs h t r i in
       c .other
-      (one-position h u (c .from) r
+      (one-position f h u (c .from) r
       (all-times (λ (x : ℕ). x < length h) (p ∷ (q ∷ qs)) (t .filled) (c .from) (c .on))
       (all-times (λ (x : ℕ). x < length h) (p ∷ (q ∷ qs)) (t .filled) r i)
       (ap f (sym (c .same)) ∙ e))

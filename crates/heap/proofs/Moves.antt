@@ -17,8 +17,9 @@ use Rattle.cells.proofs.Distinct.{all-times}
 use Rattle.meaning.specs.Entries.{Entry}
 use Rattle.meaning.specs.Heap.{at, rise, sink, settle, holds, movedFrom, heapMoves}
 use Rattle.meaning.proofs.Handles.{ticketOf}
+use Rattle.meaning.proofs.ByPosition.{at-stands}
 use Rattle.heap.proofs.Paths.{along, risen, sunk, settled, Path, rise-along, sink-along, settle-along, risen-path, sunk-path, settled-path}
-use Rattle.heap.proofs.Displaced.{along-same, times-along, at-stands, along-differs}
+use Rattle.heap.proofs.Displaced.{along-same, times-along, along-differs}
 
 -- The tickets of the entries differ.
 abbrev pub Differ : List Entry → Type 0

@@ -13,10 +13,10 @@ use Rattle.cells.proofs.Lists.{all-map}
 use Rattle.cells.proofs.Places.{put-length, put-same, put-other-field, put-other-cell, put-tail}
 use Rattle.meaning.specs.Entries.{Entry}
 use Rattle.meaning.specs.Heap.{at, exchange}
+use Rattle.meaning.proofs.ByPosition.{at-stands, one-position}
 use Rattle.heap.specs.Seats.{seated}
 use Rattle.heap.specs.Stands.{Stands, StandsBut, Ranks, Apart, Reseated, cellsOf}
 use Rattle.heap.proofs.Exchanges.{Exchanged, exchanged, length-exchange}
-use Rattle.heap.proofs.Displaced.{at-stands, one-position}
 use Rattle.heap.proofs.Permutes.{times-exchange}
 
 -- What is asked of the words while the entry at i looks for its place: all but that position stands, and each entry's cell holds its rank and is its own.

@@ -3,6 +3,7 @@ pub mod Table
 pub mod Orders
 pub mod Behind
 pub mod Arranged
+pub mod ByPosition
 pub mod Handles
 pub mod Same
 pub mod Unique
@@ -17,3 +18,5 @@ pub mod Timed
 pub mod Moves
 pub mod Becomes
 pub mod HandleTest
+pub mod Stored
+pub mod Read

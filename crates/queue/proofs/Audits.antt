@@ -17,12 +17,12 @@ use Rattle.cells.specs.declared.store.Store.{Store}
 use Rattle.cells.proofs.Cases.{test, same?, atMost?, clash, and-true, or-true}
 use Rattle.cells.proofs.Below.{below-each, each-below}
 use Rattle.cells.proofs.Audits.{shared-decides}
+use Rattle.cells.proofs.Used.{in-use-free, not-free-used}
 use Rattle.meaning.specs.Heap.{parent}
 use Rattle.heap.specs.Seats.{ranked, seatAt}
 use Rattle.queue.specs.Rules.{usedMask, freeMask, SeatRule, QueueSound}
 use Rattle.queue.specs.AuditTests.{headTest, behindTest, seatTest, placedTest, beyondTest, tableTest, auditTest}
 use Rattle.queue.specs.declared.head.Head.{Head}
-use Rattle.queue.proofs.ShownFacts.{in-use-free, not-free-used}
 
 -- What must pass and fails rules out what it must pass for.
 refuted : {Q : Type 0} (r : Bool) → (Q → r ≡ true) → r ≡ false → (false ≡ true) ↔ Q

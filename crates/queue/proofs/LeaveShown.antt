@@ -29,7 +29,7 @@ use Rattle.heap.specs.Seats.{Walk}
 use Rattle.heap.specs.Stands.{cellsOf, Stands, Ranks, Apart}
 use Rattle.heap.proofs.Exchanges.{length-heapRemove}
 use Rattle.heap.proofs.Permutes.{times-remove}
-use Rattle.heap.proofs.Displaced.{at-stands}
+use Rattle.meaning.proofs.ByPosition.{at-stands}
 use Rattle.heap.proofs.Carrying.{settle-carries}
 use Rattle.heap.proofs.Seating.{all-at, all-set, all-exchange}
 use Rattle.heap.proofs.RemoveMoves.{refilled, remove-last, remove-inner, refilled-length}

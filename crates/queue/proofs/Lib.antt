@@ -12,7 +12,6 @@ pub mod RekeyShown
 pub mod SetUpCases
 pub mod SetUpShown
 pub mod Promised
-pub mod ByPosition
 pub mod ShownFacts
 pub mod Masks
 pub mod ShownSound

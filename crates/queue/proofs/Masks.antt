@@ -5,11 +5,12 @@ use mathlib.Core.Bool.{true, not, _||_}
 use mathlib.Core.Logic.{_≢_}
 use mathlib.Core.Path.{_≡_, refl}
 use lib.Dec.{eqb}
-use borrow.Author.Tests.{eqb-true, ne-eqb, not-true}
+use borrow.Author.Tests.{ne-eqb}
 use Rattle.cells.specs.Rules.{inMask}
 use Rattle.cells.specs.AuditTests.{allBelow}
-use Rattle.cells.proofs.Cases.{clash, or-true}
+use Rattle.cells.proofs.Cases.{clash}
 use Rattle.cells.proofs.Below.{below-each}
+use Rattle.cells.proofs.Masks.{mask-only}
 use Rattle.queue.specs.Rules.{usedMask, freeMask}
 
 -- Of a cell in use the link is unused.
@@ -29,11 +30,7 @@ used-table = refl
 
 -- So a field of that mask is one of the two.
 pub used-only : {P : Type 0} (f : ℕ) → f < 8 → inMask usedMask f ≡ true → (f ≡ 4 → P) → (f ≡ 7 → P) → P
-used-only f h t p q =
-    or-true (not (inMask usedMask f)) (eqb f 4 || eqb f 7)
-    (below-each (λ (f : ℕ). not (inMask usedMask f) || (eqb f 4 || eqb f 7)) 8 used-table f h)
-    (λ e. clash t (not-true (inMask usedMask f) e))
-    (λ e. or-true (eqb f 4) (eqb f 7) e (λ k. p (eqb-true f 4 k)) (λ k. q (eqb-true f 7 k)))
+used-only f h t p q = mask-only usedMask 4 7 f used-table h t p q
 
 -- Of a free cell all fields but its link and the position table's are unused: each of the eight, computed.
 free-table : allBelow 8 (λ (f : ℕ). eqb f 4 || (eqb f 6 || inMask freeMask f)) ≡ true

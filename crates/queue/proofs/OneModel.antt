@@ -1,25 +1,26 @@
 -- Head and words show one model at most, and a model is shown by one head and one memory only.
 -- Assumes nothing.
-use Prim.Native.Nat.{ℕ, zero, suc, _*_, _/_, _≤_, _<_}
+use Prim.Native.Nat.{ℕ, _*_, _/_, _≤_, _<_}
 use native.Mathlib.Omega.{arith}
-use mathlib.Core.List.{List, [], _∷_}
+use mathlib.Core.List.{List}
 use mathlib.Core.Path.{_≡_, sym, ap, _∙_}
 use lib.ListN.{length, drop}
-use Rattle.cells.specs.Lists.{All, times}
+use Rattle.cells.specs.Lists.{times}
 use Rattle.cells.specs.Words.{word}
-use Rattle.cells.specs.Stack.{Chain, link}
+use Rattle.cells.specs.Stack.{link}
 use Rattle.cells.proofs.Cases.{same?, atMost?}
-use Rattle.cells.proofs.Chains.{chain-same}
+use Rattle.cells.proofs.Chains.{AreCells, chain-same, chain-tops, chain-alike}
 use Rattle.cells.proofs.Distinct.{all-times}
-use Rattle.cells.proofs.Places.{words-ext}
+use Rattle.cells.proofs.Places.{words-ext, each-field}
 use Rattle.meaning.specs.Entries.{Entry}
 use Rattle.meaning.specs.Heap.{at}
+use Rattle.meaning.proofs.ByPosition.{entries-ext}
 use Rattle.meaning.proofs.Same.{entry-same}
+use Rattle.meaning.proofs.Stored.{free-cells, cell-either}
 use Rattle.queue.specs.Model.{Model}
 use Rattle.queue.specs.Shows.{Carried, Shows}
 use Rattle.queue.specs.declared.head.Head.{Head}
-use Rattle.queue.proofs.ByPosition.{heap-ext}
-use Rattle.queue.proofs.ShownFacts.{free-cells, cell-either, carried-at}
+use Rattle.queue.proofs.ShownFacts.{carried-at, shown-stored}
 
 -- A model of its parts.
 abbrev modelOf : (arity : ℕ) (heap : List Entry) (counter cells : ℕ) (free : List ℕ) → Model
@@ -56,15 +57,20 @@ carried-one w x y e a b =
     (sym (a .ticket) ∙ at-y 0 ∙ b .ticket)
     (sym (a .load) ∙ at-y 3 ∙ b .load)
 
+-- Free cells are cells.
+cells : (h : Head) (w : List ℕ) (m : Model) (s : Shows h w m) → AreCells (m .free)
+cells h w m s =
+    free-cells (m .cells) (m .heap) (m .free) (shown-stored h w m s .cells) (omega (arith, s .valid .kept .fits, s .valid .means .cells))
+
 -- Head and words show one model at most.
 pub one-model : (h : Head) (w : List ℕ) (m m′ : Model) → Shows h w m → Shows h w m′ → m ≡ m′
 one-model h w m m′ s s′ =
     model-same m m′
     (sym (s .arity) ∙ s′ .arity)
-    (heap-ext (m .heap) (m′ .heap) long each)
+    (entries-ext (m .heap) (m′ .heap) long each)
     (sym (s .counter) ∙ s′ .counter)
     (sym (s .cells) ∙ s′ .cells)
-    (chain-same (link w) (h .store .free) (m .free) (m′ .free) (s .free) (s′ .free) (free-cells m (s .valid)) (free-cells m′ (s′ .valid)))
+    (chain-same (link w) (h .store .free) (m .free) (m′ .free) (s .free) (s′ .free) (cells h w m s) (cells h w m′ s′))
   where
     long : length (m .heap) ≡ length (m′ .heap)
     long = sym (s .count) ∙ s′ .count
@@ -74,29 +80,6 @@ one-model h w m m′ s s′ =
         let k : p < length (m′ .heap) = omega (arith, long) in
         carried-one w (at (m .heap) p) (at (m′ .heap) p) (sym (s .seats .table p l) ∙ s′ .seats .table p k)
         (carried-at h w m s p l) (carried-at h w m′ s′ p k)
-
--- Links through the same cells start at the same cell.
-chain-tops : (next next′ : ℕ → ℕ) (a a′ : ℕ) (cs : List ℕ) → Chain next a cs → Chain next′ a′ cs → a ≡ a′
-chain-tops next next′ a a′ [] h k = h ∙ sym k
-chain-tops next next′ a a′ (c ∷ cs) h k = h .0 ∙ sym (k .0)
-
--- They are the same links.
-chain-alike : (next next′ : ℕ → ℕ) (a a′ : ℕ) (cs : List ℕ) → Chain next a cs → Chain next′ a′ cs → All (λ (c : ℕ). next c ≡ next′ c) cs
-chain-alike next next′ a a′ [] h k = tt
-chain-alike next next′ a a′ (c ∷ cs) h k =
-    (chain-tops next next′ (next c) (next′ c) cs (h .1) (k .1), chain-alike next next′ (next c) (next′ c) cs (h .1) (k .1))
-
--- What holds of each of the eight fields holds of every field.
-each-field : (P : ℕ → Type 0) → P 0 → P 1 → P 2 → P 3 → P 4 → P 5 → P 6 → P 7 → (f : ℕ) → f < 8 → P f
-each-field P a b c d e g i j zero l = a
-each-field P a b c d e g i j (suc zero) l = b
-each-field P a b c d e g i j (suc (suc zero)) l = c
-each-field P a b c d e g i j (suc (suc (suc zero))) l = d
-each-field P a b c d e g i j (suc (suc (suc (suc zero)))) l = e
-each-field P a b c d e g i j (suc (suc (suc (suc (suc zero))))) l = g
-each-field P a b c d e g i j (suc (suc (suc (suc (suc (suc zero)))))) l = i
-each-field P a b c d e g i j (suc (suc (suc (suc (suc (suc (suc zero))))))) l = j
-each-field P a b c d e g i j (suc (suc (suc (suc (suc (suc (suc (suc f)))))))) l = absurd (omega arith)
 
 module _ (h h′ : Head) (w w′ : List ℕ) (m : Model) (s : Shows h w m) (s′ : Shows h′ w′ m) where
   -- The head is one.
@@ -147,9 +130,9 @@ module _ (h h′ : Head) (w w′ : List ℕ) (m : Model) (s : Shows h w m) (s′
   -- So is every word of every cell.
   same-word : (c f : ℕ) → c < length w / 8 → f < 8 → word w c f ≡ word w′ c f
   same-word c f l k =
-      cell-either m (s .valid) c (omega (arith, s .size))
-      (λ p i e z. rw e at (same-entry p i f k))
-      (λ z. same-free c (omega arith) f)
+      cell-either (m .cells) (m .heap) (m .free) (shown-stored h w m s .cells) c (omega (arith, s .size))
+      (λ p i e o z. rw e at (same-entry p i f k))
+      (λ z o. same-free c (omega arith) f)
 
 -- A model is shown by one head only, and by one memory of each length, but for the words past the cells.
 pub one-memory : (h h′ : Head) (w w′ : List ℕ) (m : Model) → Shows h w m → Shows h′ w′ m → length w ≡ length w′

@@ -28,7 +28,7 @@ use Rattle.meaning.proofs.Given.{given-free}
 use Rattle.heap.specs.Seats.{Walk}
 use Rattle.heap.specs.Stands.{cellsOf, Stands, Ranks, Apart}
 use Rattle.heap.proofs.Carrying.{settle-carries}
-use Rattle.heap.proofs.Displaced.{at-stands, one-position}
+use Rattle.meaning.proofs.ByPosition.{at-stands, one-position}
 use Rattle.heap.proofs.Exchanges.{at-set, at-set-other, length-heapRekey}
 use Rattle.heap.proofs.Moves.{Differ, moved-still, moves-exactly}
 use Rattle.heap.proofs.Permutes.{times-set}

@@ -2,43 +2,37 @@
 -- Assumes nothing.
 use Prim.Native.Nat.{ℕ, zero, suc, _+_, _≤_, _<_}
 use native.Mathlib.Omega.{arith}
-use mathlib.Core.Bool.{true, false, cond}
-use mathlib.Core.List.{List, [], _∷_, map}
+use mathlib.Core.Bool.{true, false, cond, _&&_}
+use mathlib.Core.List.{List, [], _∷_}
 use mathlib.Core.Logic.{_≢_, _↔_}
 use mathlib.Core.Path.{_≡_, refl, sym, ap, _∙_}
 use lib.Dec.{ltb}
 use lib.ListN.{length}
-use borrow.Author.Tests.{lt-ltb, le-ltb}
+use borrow.Author.Tests.{lt-ltb, ltb-true}
 use Rattle.cells.specs.Lists.{All, times}
 use Rattle.cells.specs.Words.{word}
-use Rattle.cells.specs.Stack.{isFree}
 use Rattle.cells.specs.Rules.{inUse, CellRule}
 use Rattle.cells.proofs.Cases.{test, same?, atMost?, clash}
 use Rattle.cells.proofs.Memory.{word-no-field, word-no-cell}
 use Rattle.meaning.specs.Entries.{Entry, before}
 use Rattle.meaning.specs.Plain.{Plain}
-use Rattle.meaning.specs.Kept.{Numbered, Kept}
+use Rattle.meaning.specs.Kept.{Kept}
 use Rattle.meaning.specs.Heap.{at, parent}
+use Rattle.meaning.specs.Arranged.{arranged}
+use Rattle.meaning.proofs.Arranged.{arranged-same}
+use Rattle.meaning.proofs.ByPosition.{at-all, at-stands, stands-at, once-each}
+use Rattle.meaning.proofs.Read.{entryIn, Held, entry-held, free-unused, kept-read}
 use Rattle.heap.specs.HeapOrder.{InOrder}
 use Rattle.heap.specs.Seats.{seatAt}
 use Rattle.heap.specs.Stands.{Stands, cellsOf}
-use Rattle.heap.proofs.Displaced.{at-stands}
 use Rattle.heap.proofs.Positions.{parent-below}
 use Rattle.queue.specs.Model.{Model}
 use Rattle.queue.specs.Means.{Means}
 use Rattle.queue.specs.Shows.{Carried, Shows}
 use Rattle.queue.specs.Rules.{usedMask, freeMask, QueueSound}
 use Rattle.queue.specs.declared.head.Head.{Head}
-use Rattle.meaning.specs.Arranged.{arranged}
-use Rattle.meaning.proofs.Arranged.{arranged-same, arranged-all, arranged-ordered}
-use Rattle.queue.proofs.ByPosition.{at-all, stands-at, once-each}
 use Rattle.queue.proofs.Masks.{used-link, used-last, free-others}
-use Rattle.queue.proofs.ShownFacts.{ticket-used, in-use-free, free-not-used, not-free-used}
 use Rattle.queue.proofs.ShownSound.{rank-before, shown-sound}
-
--- The entry in a cell.
-unfoldable pub entryIn : List ℕ → ℕ → Entry
-entryIn w c = record { key = word w c 2; order = word w c 1; cell = c; ticket = word w c 0; load = word w c 3 }
 
 -- The entries at k positions from p on.
 unfoldable pub heapRead : List ℕ → ℕ → ℕ → List Entry
@@ -124,53 +118,22 @@ module _ (h : Head) (w : List ℕ) (r : QueueSound w h) where
             unused = rule-here p l .blank 7 (omega arith) (rw used used-last);
           })
 
-  -- Each entry has its numbers below the counter.
-  numbered : All (Numbered (h .store .counter)) heap
-  unfolding entryIn
-  numbered = at-all (Numbered (h .store .counter)) heap each
-    where
-      each : (p : ℕ) → p < length heap → Numbered (h .store .counter) (at heap p)
-      each p i =
-          let l : p < h .count = omega (arith, filled) in
-          let used = r .seats p l .used in
-          rw (here p l)
-          (record {
-            some = ticket-used w (word w p 6) used;
-            rising = rule-here p l .ticket used;
-            taken = rule-here p l .order used;
-          })
-
-  -- Numbers of entries that differ by cell stand once each.
-  once : (g : Entry → ℕ) → ((p q : ℕ) → p < h .count → q < h .count → g (at heap p) ≡ g (at heap q) → word w p 6 ≡ word w q 6)
-      → (k : ℕ) → times k (map g heap) ≤ 1
-  once g apart =
-      once-each g heap
-      (λ p q i j e.
+  -- Each entry is held by a cell in use.
+  held : All (Held w (h .store .cells)) heap
+  held =
+      at-all (Held w (h .store .cells)) heap
+      (λ p i.
       let l : p < h .count = omega (arith, filled) in
-      let k : q < h .count = omega (arith, filled) in
-      cells-apart p q l k (apart p q l k e))
-
-  -- Tickets differ.
-  tickets-once : (k : ℕ) → times k (map (λ (e : Entry). e .ticket) heap) ≤ 1
-  unfolding entryIn
-  tickets-once =
-      once (λ (e : Entry). e .ticket)
-      (λ p q i j e.
-      r .shared .tickets (word w p 6) (word w q 6) (r .seats p i .inside) (r .seats q j .inside) (r .seats p i .used) (r .seats q j .used)
-      (rw (here p i, here q j) at e))
-
-  -- Order numbers differ.
-  orders-once : (k : ℕ) → times k (map (λ (e : Entry). e .order) heap) ≤ 1
-  unfolding entryIn
-  orders-once =
-      once (λ (e : Entry). e .order)
-      (λ p q i j e.
-      r .shared .orders (word w p 6) (word w q 6) (r .seats p i .inside) (r .seats q j .inside) (r .seats p i .used) (r .seats q j .used)
-      (rw (here p i, here q j) at e))
+      rw (here p l) (entry-held w (h .store .cells) (word w p 6) (r .seats p l .inside) (r .seats p l .used)))
 
   -- Each cell is one entry's at most.
   cells-once : (k : ℕ) → times k (cellsOf heap) ≤ 1
-  cells-once = once (λ (e : Entry). e .cell) (λ p q i j e. sym (cell-here p i) ∙ e ∙ cell-here q j)
+  cells-once =
+      once-each (λ (e : Entry). e .cell) heap
+      (λ p q i j e.
+      let l : p < h .count = omega (arith, filled) in
+      let k : q < h .count = omega (arith, filled) in
+      cells-apart p q l k (sym (cell-here p l) ∙ e ∙ cell-here q k))
 
   -- A cell that is not in use below N is no entry's.
   no-entry : (c : ℕ) → (c < h .store .cells → inUse w c ≡ true → ⊥) → times c (cellsOf heap) ≡ 0
@@ -191,20 +154,15 @@ module _ (h : Head) (w : List ℕ) (r : QueueSound w h) where
       let q : at heap p .cell ≡ c = cell-here p k ∙ r .found c l u in
       omega (arith, cells-once c, rw q at (at-stands (λ (e : Entry). e .cell) heap p (omega (arith, filled))))
 
-  -- Free cells and cells in use are together 0 to N - 1, once each.
-  cells-count : (c : ℕ) → times c (cellsOf heap) + times c free ≡ cond (ltb c (h .store .cells)) 1 0
-  cells-count c =
-      let stack = r .shared .stack .once c in
-      atMost? (h .store .cells) c
+  -- So each cell in use is one entry's, and no other is any.
+  cells-used : (c : ℕ) → times c (cellsOf heap) ≡ cond (ltb c (h .store .cells) && inUse w c) 1 0
+  cells-used c =
+      test (ltb c (h .store .cells))
       (λ l.
-      let past = le-ltb c (h .store .cells) l in
-      rw past (omega (arith, rw past at stack, no-entry c (λ k u. omega arith))))
-      (λ l.
-      let below = lt-ltb c (h .store .cells) l in
-      rw below
-      (test (isFree w c)
-      (λ t. omega (arith, rw (below, t) at stack, no-entry c (λ k u. clash t (in-use-free w c u))))
-      (λ t. omega (arith, rw (below, t) at stack, one-entry c l (not-free-used w c t)))))
+      test (inUse w c)
+      (λ u. rw (l, u) (one-entry c (ltb-true c (h .store .cells) l) u))
+      (λ u. rw (l, u) (no-entry c (λ k v. clash v u))))
+      (λ l. rw l (no-entry c (λ k u. clash (lt-ltb c (h .store .cells) k) l)))
 
   -- The heap is in order.
   in-order : InOrder (h .arity) heap
@@ -223,19 +181,7 @@ module _ (h : Head) (w : List ℕ) (r : QueueSound w h) where
   -- The plain list keeps to the rules.
   read-kept : Kept (plainRead h w free)
   unfolding plainRead
-  read-kept =
-      let same = arranged-same heap in
-      record {
-        ordered = arranged-ordered heap orders-once;
-        cells = λ c. omega (arith, same (λ (e : Entry). e .cell) c, cells-count c);
-        numbered = arranged-all (Numbered (h .store .counter)) heap numbered;
-        tickets = λ k. omega (arith, same (λ (e : Entry). e .ticket) k, tickets-once k);
-        orders = λ k. omega (arith, same (λ (e : Entry). e .order) k, orders-once k);
-        counted = r .shared .counted;
-        counts = r .counts;
-        sized = r .shared .some;
-        fits = r .shared .most;
-      }
+  read-kept = kept-read w (h .store) usedMask freeMask (r .shared) heap held cells-used 0 (r .counts)
 
   -- The model means it.
   read-means : Means (modelRead h w free) (plainRead h w free)
@@ -253,16 +199,9 @@ module _ (h : Head) (w : List ℕ) (r : QueueSound w h) where
   -- The words of a free cell, but for its link and the position table's.
   free-blank : (c f : ℕ) → 1 ≤ times c free → f ≢ 4 → f ≢ 6 → word w c f ≡ 0
   free-blank c f k n t =
-      let stack = r .shared .stack .once c in
       atMost? 8 f
       (λ l. word-no-field w c f l)
-      (λ l.
-      atMost? (h .store .cells) c
-      (λ i. absurd (omega (arith, rw (le-ltb c (h .store .cells) i) at stack)))
-      (λ i.
-      test (isFree w c)
-      (λ e. r .shared .cell c i .blank f l (rw (free-not-used w c e) (free-others f l n t)))
-      (λ e. absurd (omega (arith, rw (lt-ltb c (h .store .cells) i, e) at stack)))))
+      (λ l. free-unused w (h .store) usedMask freeMask (r .shared) c f k l (free-others f l n t))
 
   -- The heap stands in the words.
   read-stands : Stands w heap

@@ -187,10 +187,10 @@ module _ (l : Lists) (d : Dial) (m : Plain) (s : DialShows l d m) where
           let (e, q) = held c k held-here in
           let told = told-by e q in
           let x : step (Cancel c k) m ≡ record { answer = Load (word (l .words) c 3); next = joins (frees c k) m } =
-              rw (live c k e q) (rw (told .1) refl) in
+          rw (live c k e q) (rw (told .1) refl) in
           let valid = subst (λ (y : Step). Valid (y .next)) x (valid-step (Cancel c k) m tt (s .valid)) in
           let key : listOf (m .clock) (e .key) ≡ listOf (d .clock) (word (l .words) c 2) =
-              ap (λ (t : ℕ). listOf t (e .key)) (sym (s .clock)) ∙ ap (listOf (d .clock)) (sym (told .0)) in
+          ap (λ (t : ℕ). listOf t (e .key)) (sym (s .clock)) ∙ ap (listOf (d .clock)) (sym (told .0)) in
           done-by (Cancel c k) m _ _ _ _ x refl
           (subst
           (λ (i : ℕ). DialShows (withWords (leaveAt l i c) (releaseWords (leaveAt l i c .words) (d .store) c))
@@ -253,7 +253,7 @@ module _ (l : Lists) (d : Dial) (m : Plain) (s : DialShows l d m) where
                 let (x, q) = held c k held-here in
                 let told = told-by held-here x q in
                 let y : step (Move c k e) m ≡ record { answer = Changed; next = joins (refiles c k e) m } =
-                    rw (names-one, le-ltb 68719476735 e most, lt-leb e (m .clock) (omega (arith, s .clock)), rw (s .counter) at t) in
+                rw (names-one, le-ltb 68719476735 e most, lt-leb e (m .clock) (omega (arith, s .clock)), rw (s .counter) at t) in
                 let valid = subst (λ (z : Step). Valid (z .next)) y (valid-step (Move c k e) m tt (s .valid)) in
                 done-by (Move c k e) m _ _ _ _ y refl
                 (subst (λ (key : ℕ). Moved (d .clock) key) (sym (told .0))

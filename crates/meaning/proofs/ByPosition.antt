@@ -4,17 +4,15 @@ use Prim.Native.Nat.{ℕ, zero, suc, _≤_, _<_}
 use native.Mathlib.Omega.{arith}
 use mathlib.Core.Bool.{Bool, true, cond}
 use mathlib.Core.List.{List, [], _∷_, map}
-use mathlib.Core.Logic.{_≢_}
-use mathlib.Core.Path.{_≡_, sym, _∙_}
+use mathlib.Core.Path.{_≡_, refl, sym, ap, _∙_}
 use lib.ListN.{length}
 use lib.Seq.{ext-getD}
 use Rattle.cells.specs.Lists.{All, times}
 use Rattle.cells.proofs.Cases.{same?, test}
 use Rattle.cells.proofs.Lists.{times-here, times-past}
 use Rattle.meaning.specs.Entries.{Entry, nobody}
 use Rattle.meaning.specs.Heap.{at}
-use Rattle.heap.proofs.Displaced.{at-stands}
 use Rattle.meaning.specs.Arranged.{SameEntries}
 
 module _ (P : Entry → Type 0) where
   -- What holds of all holds at each position.
@@ -31,11 +29,31 @@ module _ (P : Entry → Type 0) where
   at-all (x ∷ xs) f = (f 0 (omega arith), at-all xs (λ p l. f (suc p) (omega arith)))
 
 -- Lists as long that hold the same entry at each position are one.
-pub heap-ext : (xs ys : List Entry) → length xs ≡ length ys → ((p : ℕ) → p < length xs → at xs p ≡ at ys p) → xs ≡ ys
+pub entries-ext : (xs ys : List Entry) → length xs ≡ length ys → ((p : ℕ) → p < length xs → at xs p ≡ at ys p) → xs ≡ ys
 unfolding at
-heap-ext xs ys e f = ext-getD nobody xs ys e f
+entries-ext xs ys e f = ext-getD nobody xs ys e f
 
 module _ (f : Entry → ℕ) where
+  -- The number of an entry stands in the list of the numbers.
+  pub at-stands : (h : List Entry) (r : ℕ) → r < length h → 1 ≤ times (f (at h r)) (map f h)
+  unfolding at times
+  at-stands [] r i = absurd (omega arith)
+  at-stands (x ∷ xs) zero i = omega (arith, times-here (f x) (f x) (map f xs) refl)
+  at-stands (x ∷ xs) (suc r) i = omega (arith, at-stands xs r (omega arith))
+
+  -- Where numbers differ, a number is that of one position only.
+  pub one-position : (h : List Entry) → ((k : ℕ) → times k (map f h) ≤ 1) → (r s : ℕ) → r < length h → s < length h
+      → f (at h r) ≡ f (at h s) → r ≡ s
+  unfolding at times
+  one-position [] u r s i j e = absurd (omega arith)
+  one-position (x ∷ xs) u zero zero i j e = refl
+  one-position (x ∷ xs) u zero (suc s) i j e =
+      absurd (omega (arith, u (f x), times-here (f x) (f x) (map f xs) refl, rw (← e) at (at-stands xs s (omega arith))))
+  one-position (x ∷ xs) u (suc r) zero i j e =
+      absurd (omega (arith, u (f x), times-here (f x) (f x) (map f xs) refl, rw e at (at-stands xs r (omega arith))))
+  one-position (x ∷ xs) u (suc r) (suc s) i j e =
+      ap suc (one-position xs (λ k. omega (arith, u k)) r s (omega arith) (omega arith) e)
+
   -- A number that stands in the list is that of some position.
   pub stands-at : {P : Type 0} (k : ℕ) (xs : List Entry) → 1 ≤ times k (map f xs) → ((p : ℕ) → p < length xs → f (at xs p) ≡ k → P) → P
   unfolding at

@@ -1,0 +1,4 @@
+-- The queue's script: its commands, its answer lines, and where a run stands.
+pub mod Commands
+pub mod Texts
+pub mod Sessions
