@@ -23,20 +23,6 @@ use Rattle.heap.specs.Seats.{
   inReach,
 }
 
--- Before, by the keys.
-module _ (key order key′ order′ : ℕ) where
-  pub rank-less : key < key′ → true ≡ ranked key order key′ order′
-  unfolding ranked
-  rank-less h = rw (lt-ltb key key′ h)
-
-  pub rank-same : key ≡ key′ → ltb order order′ ≡ ranked key order key′ order′
-  unfolding ranked
-  rank-same h = rw (le-ltb key key′ (omega arith), eq-eqb key key′ h)
-
-  pub rank-more : key′ < key → false ≡ ranked key order key′ order′
-  unfolding ranked
-  rank-more h = rw (le-ltb key key′ (omega arith), ne-eqb key key′ (omega arith))
-
 -- Who stands at a position, from three reads.
 pub seat-is : (w : List ℕ) (p cell key order : ℕ) → cell ≡ word w p 6 → key ≡ word w cell 2 → order ≡ word w cell 1
     → _≡_ {A = Seat} (record { position = p; cell = cell; key = key; order = order }) (seatAt w p)
@@ -57,15 +43,13 @@ pub seated-is : (w : List ℕ) (p c : ℕ) {v u : List ℕ} → v ≡ putWord w 
 unfolding seated
 seated-is w p c e f = f ∙ rw e
 
--- The earlier of two, by their ranks.
-module _ (a b : Seat) (t : Bool) (e : t ≡ ranked (b .key) (b .order) (a .key) (a .order)) where
-  pub sooner-second : t ≡ true → b ≡ sooner a b
-  unfolding sooner
-  sooner-second y = rw (sym e ∙ y)
-
-  pub sooner-first : t ≡ false → a ≡ sooner a b
-  unfolding sooner
-  sooner-first y = rw (sym e ∙ y)
+-- The earlier of two, picked field by field.
+pub sooner-picked : (a b : Seat) (t : Bool) (p c k o : ℕ) → t ≡ ranked (b .key) (b .order) (a .key) (a .order)
+    → p ≡ cond t (b .position) (a .position) → c ≡ cond t (b .cell) (a .cell) → k ≡ cond t (b .key) (a .key) → o ≡ cond t (b .order) (a .order)
+    → _≡_ {A = Seat} (record { position = p; cell = c; key = k; order = o }) (sooner a b)
+unfolding sooner
+sooner-picked a b true p c k o e h i j l = rw (sym e, h, i, j, l)
+sooner-picked a b false p c k o e h i j l = rw (sym e, h, i, j, l)
 
 -- The look begins behind the first.
 pub soonest-from : (w : List ℕ) (e f : ℕ) (best : Seat) → best ≡ seatAt w f
@@ -110,11 +94,9 @@ module _ (d n : ℕ) (w : List ℕ) (first : ℕ) where
   unfolding firstChild
   child-cut s h e = e ∙ rw (lt-ltb n (first + d) h, add-one first)
 
-  pub child-whole : (s : Seat) → first + d ≤ n → s ≡ soonest w (seatAt w first) (first + 1) (first + d - first - 1) → s ≡ firstChild d n w first
+  pub child-whole : (s : Seat) → first + d ≤ n → s ≡ soonest w (seatAt w first) (first + 1) (d - 1) → s ≡ firstChild d n w first
   unfolding firstChild
-  child-whole s h e =
-      let many : first + d - first - 1 ≡ d - 1 = omega arith in
-      e ∙ rw (le-ltb n (first + d) h, add-one first, many)
+  child-whole s h e = e ∙ rw (le-ltb n (first + d) h, add-one first)
 
   -- The earliest child stands at the first or behind it, and in the heap.
   pub child-within : 1 ≤ d → first < n → (first ≤ firstChild d n w first .position) × (firstChild d n w first .position < n)
@@ -150,3 +132,33 @@ module _ (d n p : ℕ) where
       let two = and-true (leb 1 d && leb d 8) (leb n 4096) (three .0) in
       let one = and-true (leb 1 d) (leb d 8) (two .0) in
       (leb-true 1 d (one .0), leb-true d 8 (one .1), leb-true n 4096 (two .1), ltb-true p n (three .1))
+
+-- The earliest of some and then of more.
+soonest-add : (w : List ℕ) (b : Seat) (q k m : ℕ) → soonest w (soonest w b q k) (q + k) m ≡ soonest w b q (k + m)
+unfolding soonest
+soonest-add w b q zero m =
+    let none : q + 0 ≡ q = omega arith in
+    let all : 0 + m ≡ m = omega arith in
+    rw (none, all)
+soonest-add w b q (suc k) m =
+    let step : q + suc k ≡ suc q + k = omega arith in
+    let all : suc k + m ≡ suc (k + m) = omega arith in
+    rw (step, all) (soonest-add w (sooner b (seatAt w q)) (suc q) k m)
+
+pub soonest-join : (w : List ℕ) (b c r : Seat) (q k m q′ n : ℕ) → c ≡ soonest w b q k → q′ ≡ q + k → n ≡ k + m → r ≡ soonest w c q′ m
+    → r ≡ soonest w b q n
+soonest-join w b c r q k m q′ n e f g h = h ∙ rw (e, f, g) (soonest-add w b q k m)
+
+pub soonest-one : (w : List ℕ) (f : ℕ) (s t r : Seat) → s ≡ seatAt w f → t ≡ seatAt w (f + 1) → r ≡ sooner s t
+    → r ≡ soonest w (seatAt w f) (f + 1) 1
+unfolding soonest
+soonest-one w f s t r e g h = rw (h, e, g)
+
+pub soonest-two : (w : List ℕ) (q : ℕ) (best s near t r : Seat) → s ≡ seatAt w q → near ≡ sooner best s → t ≡ seatAt w (q + 1) → r ≡ sooner near t
+    → r ≡ soonest w best q 2
+unfolding soonest
+soonest-two w q best s near t r e f g h = rw (h, f, e, g, add-one q)
+
+-- As many as the arity says.
+pub soonest-many : (w : List ℕ) (b s : Seat) (q k m : ℕ) → s ≡ soonest w b q k → k ≡ m → s ≡ soonest w b q m
+soonest-many w b s q k m e f = e ∙ rw f

@@ -4,6 +4,7 @@
 use cells::words::get;
 use cells::words::put;
 ghost use Prim.Native.Nat.{_+_, _-_, _≤_, _<_};
+ghost use mathlib.Core.Bool.{cond};
 ghost use mathlib.Core.Path.{_≡_};
 ghost use Rattle.meaning.specs.Heap.{parent};
 ghost use Rattle.cells.specs.Words.{word};
@@ -38,13 +39,7 @@ pub struct Seat {
 pub fn is_before(key: u64, order: u64, key2: u64, order2: u64) -> bool
     ensures { λ r. ⌜ r ≡ ranked key order key2 order2 ⌝ }
 {
-    if key < key2 {
-        return true;
-    }
-    if key == key2 {
-        return order < order2;
-    }
-    false
+    (key < key2) | ((key == key2) & (order < order2))
 }
 
 // Seats cell c at position p.
@@ -76,14 +71,27 @@ fn parent_of(d: u64, p: u64) -> u64
     (p - 1) / d
 }
 
-// The earlier of two.
+// One of two numbers: chosen, and no branch.
+fn pick(t: bool, yes: u64, no: u64) -> u64
+    ensures { λ r. ⌜ r ≡ cond t yes no ⌝ }
+{
+    if t {
+        return yes;
+    }
+    no
+}
+
+// The earlier of two, field by field, so that the compiler needs no branch and keeps the fields in registers.
 fn sooner(a: Seat, b: Seat) -> Seat
     ensures { λ r. ⌜ r ≡ soonerOf a b ⌝ }
 {
-    if is_before(b.key, b.order, a.key, a.order) {
-        return b;
+    let t = is_before(b.key, b.order, a.key, a.order);
+    Seat {
+        position: pick(t, b.position, a.position),
+        cell: pick(t, b.cell, a.cell),
+        key: pick(t, b.key, a.key),
+        order: pick(t, b.order, a.order),
     }
-    a
 }
 
 // The earliest of the positions first to end - 1.
@@ -100,6 +108,57 @@ fn earliest_among(w: &[u64], first: u64, end: u64) -> Seat
     best
 }
 
+// The earliest of one and of the positions q and q + 1.
+fn next_two(w: &[u64], best: Seat, q: u64) -> Seat
+    requires { ⌜ q ≤ 4096 ⌝ }
+    ensures { λ r. ⌜ r ≡ soonest (now (w .entry)) best q 2 ⌝ }
+{
+    let near = sooner(best, look(w, q));
+    sooner(near, look(w, q + 1))
+}
+
+// The earliest of the two positions from first on.
+fn of_two(w: &[u64], first: u64) -> Seat
+    requires { ⌜ first ≤ 4096 ⌝ }
+    ensures { λ r. ⌜ r ≡ soonest (now (w .entry)) (seatAt (now (w .entry)) first) (first + 1) 1 ⌝ }
+{
+    sooner(look(w, first), look(w, first + 1))
+}
+
+// The earliest of the four positions from first on.
+fn of_four(w: &[u64], first: u64) -> Seat
+    requires { ⌜ first ≤ 4092 ⌝ }
+    ensures { λ r. ⌜ r ≡ soonest (now (w .entry)) (seatAt (now (w .entry)) first) (first + 1) 3 ⌝ }
+{
+    next_two(w, of_two(w, first), first + 2)
+}
+
+// The earliest of the eight positions from first on.
+fn of_eight(w: &[u64], first: u64) -> Seat
+    requires { ⌜ first ≤ 4088 ⌝ }
+    ensures { λ r. ⌜ r ≡ soonest (now (w .entry)) (seatAt (now (w .entry)) first) (first + 1) 7 ⌝ }
+{
+    let six = next_two(w, of_four(w, first), first + 4);
+    next_two(w, six, first + 6)
+}
+
+// The earliest of the d positions from first on: for the usual arities with no loop, so that the compiler picks and does not branch.
+fn earliest_of(w: &[u64], d: u64, first: u64) -> Seat
+    requires { ⌜ (1 ≤ d) × (d ≤ 8) × (first + d ≤ 4096) ⌝ }
+    ensures { λ r. ⌜ r ≡ soonest (now (w .entry)) (seatAt (now (w .entry)) first) (first + 1) (d - 1) ⌝ }
+{
+    if d == 4 {
+        return of_four(w, first);
+    }
+    if d == 8 {
+        return of_eight(w, first);
+    }
+    if d == 2 {
+        return of_two(w, first);
+    }
+    earliest_among(w, first, first + d)
+}
+
 // The earliest child whose positions begin at first, in a heap of n.
 fn earliest_child(w: &[u64], d: u64, n: u64, first: u64) -> Seat
     requires { ⌜ (1 ≤ d) × (d ≤ 8) × (first < n) × (n ≤ 4096) ⌝ }
@@ -108,7 +167,7 @@ fn earliest_child(w: &[u64], d: u64, n: u64, first: u64) -> Seat
     if n < first + d {
         return earliest_among(w, first, n);
     }
-    earliest_among(w, first, first + d)
+    earliest_of(w, d, first)
 }
 
 // Whether an entry with this key and order number is before the parent of position p.

@@ -13,14 +13,11 @@ earliest-among-requires c κs = search needs
 returns : tie.Need-returns
 returns c = child-cut _ _ _ _ _ (search needs) (c .earliest-among .ensures)
 
-add-earliest-among : tie.Need-add-earliest-among
-add-earliest-among c = search needs
-
-earliest-among-requires-2 : tie.Need-earliest-among-requires-2
-earliest-among-requires-2 c κs = search needs
+earliest-of-requires : tie.Need-earliest-of-requires
+earliest-of-requires c κs = search needs
 
 returns-2 : tie.Need-returns-2
-returns-2 c = child-whole _ _ _ _ _ (search needs) (c .earliest-among2 .ensures)
+returns-2 c = child-whole _ _ _ _ _ (search needs) (c .earliest-of .ensures)
 
 pub earliest-child-spec : {M : Type 1} → statement M
 earliest-child-spec =
@@ -29,6 +26,5 @@ earliest-child-spec =
     add-if1
     earliest-among-requires
     returns
-    add-earliest-among
-    earliest-among-requires-2
+    earliest-of-requires
     returns-2)
