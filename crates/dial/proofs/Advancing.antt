@@ -31,7 +31,8 @@ use Rattle.dial.specs.Shows.{cellsAt, Shows}
 use Rattle.dial.specs.Records.{withRecords}
 use Rattle.dial.proofs.Listed.{listed-joins, arranged-hands, joins-hands}
 use Rattle.dial.proofs.Facts.{facts}
-use Rattle.dial.proofs.AnyOrder.{all-arranged, sumOf-arranged}
+use Rattle.meaning.proofs.Arranged.{all-arranged}
+use Rattle.dial.proofs.AnyOrder.{sumOf-arranged}
 use Rattle.dial.proofs.Wakings.{wakes, Ahead, NextTick, allMoves-none}
 use Rattle.dial.proofs.Advances.{dueNow, waiting, waiting-ahead, more-due, all-done, Onward, goes-on}
 use Rattle.dial.proofs.ListTicks.{next-tick, first-low, first-some, none-ahead}

@@ -4,16 +4,10 @@ use Prim.Native.Nat.{ℕ, _+_}
 use native.Mathlib.Omega.{arith}
 use mathlib.Core.Bool.{Bool, true, false, cond}
 use mathlib.Core.List.{List, [], _∷_}
-use mathlib.Core.Path.{_≡_, refl, sym}
-use Rattle.cells.specs.Lists.{All, sumOf}
+use mathlib.Core.Path.{_≡_, refl}
+use Rattle.cells.specs.Lists.{sumOf}
 use Rattle.meaning.specs.Entries.{Entry, before, insert}
 use Rattle.meaning.specs.Arranged.{arranged}
-use Rattle.meaning.proofs.Arranged.{arranged-same}
-use Rattle.meaning.proofs.Unique.{same-all}
-
--- What holds of all arranged holds of all.
-pub all-arranged : (P : Entry → Type 0) (es : List Entry) → All P (arranged es) → All P es
-all-arranged P es a = same-all P (arranged es) es (λ f k. sym (arranged-same es f k)) a
 
 module _ (f : Entry → ℕ) where
   -- An entry put in adds its number to the sum.

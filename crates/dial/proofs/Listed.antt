@@ -18,12 +18,11 @@ use Rattle.meaning.proofs.Orders.{times-insert}
 use Rattle.meaning.proofs.Handles.{ticketOf, map-append, times-without}
 use Rattle.meaning.proofs.Stack.{onto-append}
 use Rattle.meaning.proofs.Same.{same-length, same-named, named-head}
-use Rattle.meaning.proofs.Arranged.{arranged-same}
+use Rattle.meaning.proofs.Arranged.{arranged-same, all-arranged}
 use Rattle.meaning.proofs.Unique.{arranged-is}
 use Rattle.meaning.proofs.Allowed.{Allowed, allowed, found}
 use Rattle.meaning.proofs.Reached.{kept-apply}
 use Rattle.dial.specs.Joined.{listed, remaining, joins, step}
-use Rattle.dial.proofs.AnyOrder.{all-arranged}
 
 -- A model of its parts.
 abbrev plainOf : (entries : List Entry) (clock counter cells : ℕ) (free : List ℕ) → Plain

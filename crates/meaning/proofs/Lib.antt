@@ -20,3 +20,4 @@ pub mod Becomes
 pub mod HandleTest
 pub mod Stored
 pub mod Read
+pub mod Smallest

@@ -6,3 +6,5 @@ pub mod ShownSound
 pub mod Gathered
 pub mod SoundShown
 pub mod OneMemory
+pub mod Promised
+pub mod WakeShown
