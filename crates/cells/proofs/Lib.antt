@@ -24,3 +24,4 @@ pub mod Masks
 pub mod Distinct
 pub mod Audits
 pub mod Framed
+pub mod Stability

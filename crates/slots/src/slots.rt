@@ -203,7 +203,7 @@ pub fn empty_slot(first: &mut [u16], last: &mut [u16], marks: &mut [u64], i: u64
 }
 
 // The marks of level p, none behind the last.
-fn marks_at(marks: &[u64], p: u64) -> u64
+pub fn marks_at(marks: &[u64], p: u64) -> u64
     ensures { λ r. ⌜ r ≡ getD (now (marks .entry)) p 0 ⌝ }
 {
     let at = p as usize;

@@ -8,3 +8,11 @@ pub mod SoundShown
 pub mod OneMemory
 pub mod Promised
 pub mod WakeShown
+pub mod Rising
+pub mod Walks
+pub mod Noting
+pub mod AuditSteps
+pub mod Counting
+pub mod Listed
+pub mod Audits
+pub mod AdvanceShown

@@ -4,3 +4,4 @@ pub mod Promise
 pub mod Rules
 pub mod SetUps
 pub mod Refiled
+pub mod AuditTests

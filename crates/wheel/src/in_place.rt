@@ -1,5 +1,8 @@
 // The calls themselves, over lent words and arrays and the head's numbers by value: nothing here copies an array.
+// Memory that was never audited may hold anything; an advance whose turns run out there is refused with 9.
 
+use crate::head::AdvanceAnswer;
+use crate::head::AdvanceTurn;
 use crate::head::ArmAnswer;
 use crate::head::ArmTurn;
 use crate::head::CancelAnswer;
@@ -19,6 +22,10 @@ use cells::words::put;
 use dial::lists::join_at;
 use dial::lists::leave_at;
 use dial::lists::list_of;
+use dial::state::HowEnded;
+use dial::state::Turn;
+use dial::state::TurnsEnded;
+use dial::turns::advance_turns;
 use places::wake_tick;
 use slots::ring::Ends;
 use slots::slots::first_marked;
@@ -28,8 +35,8 @@ ghost use mathlib.Core.Path.{_≡_};
 ghost use Rattle.meaning.specs.Calls.{Arm, Move, Cancel, NextWake};
 ghost use Rattle.dial.specs.Lent.{listsOf};
 ghost use Rattle.wheel.specs.Answers.{toldArm, toldMove, toldCancel, toldWake};
-ghost use Rattle.wheel.specs.Promise.{Promise};
-ghost use Rattle.wheel.specs.Refiled.{refiledLists};
+ghost use Rattle.wheel.specs.Promise.{Promise, Advances};
+ghost use Rattle.wheel.specs.Refiled.{refiledLists, endedAnswer};
 
 // Arms a timer: refused with 5 above the last tick, 3 at or below the clock, 6 where no cell is free, 8 once the counter is spent.
 pub fn arm(
@@ -210,4 +217,70 @@ pub fn next_wake(marks: &[u64], d: Dial) -> WakeAnswer
         return WakeAnswer::Quiet;
     }
     WakeAnswer::At(wake_tick(d.clock, i / 64, i % 64))
+}
+
+// What an advance answers at its end.
+fn told(ended: TurnsEnded) -> AdvanceAnswer
+    ensures { λ r. ⌜ r ≡ endedAnswer ended ⌝ }
+{
+    let t = ended.turn;
+    let ending = ended.ending;
+    match ending {
+        HowEnded::Done => AdvanceAnswer::Done(t.fired, t.clock, t.moves),
+        HowEnded::More => AdvanceAnswer::More(t.fired, t.clock, t.moves),
+        HowEnded::Broken => AdvanceAnswer::Refused(9),
+    }
+}
+
+// Advances the clock to the target, or to where the output is full and more is due: refused with 5 above the last tick, 4 below the clock.
+pub fn advance(
+    w: &mut [u64],
+    first: &mut [u16],
+    last: &mut [u16],
+    marks: &mut [u64],
+    d: Dial,
+    target: u64,
+    out: &mut [u64],
+) -> AdvanceTurn
+    ensures { λ r. ⌜
+        Advances target (listsOf (now (w .entry)) (now (first .entry)) (now (last .entry)) (now (marks .entry)) (d .due)) d
+        (now (out .entry))
+        (r .answer)
+        (listsOf (now (w .exit)) (now (first .exit)) (now (last .exit)) (now (marks .exit)) (r .dial .due)) (r .dial)
+        (now (out .exit))
+        ⌝ }
+{
+    if target > 68719476735 {
+        return AdvanceTurn {
+            answer: AdvanceAnswer::Refused(5),
+            dial: d,
+        };
+    }
+    if target < d.clock {
+        return AdvanceTurn {
+            answer: AdvanceAnswer::Refused(4),
+            dial: d,
+        };
+    }
+    let due = d.due;
+    let store = d.store;
+    let start = Turn {
+        clock: d.clock,
+        due,
+        store,
+        fired: 0,
+        moves: 0,
+    };
+    let ended = advance_turns(w, first, last, marks, out, start, target);
+    let turn = ended.turn;
+    let left = turn.due;
+    let kept = turn.store;
+    AdvanceTurn {
+        answer: told(ended),
+        dial: Dial {
+            clock: turn.clock,
+            due: left,
+            store: kept,
+        },
+    }
 }
