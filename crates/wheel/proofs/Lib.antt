@@ -16,3 +16,5 @@ pub mod Counting
 pub mod Listed
 pub mod Audits
 pub mod AdvanceShown
+pub mod Checking
+pub mod Outcomes
