@@ -18,3 +18,4 @@ pub mod Audits
 pub mod AdvanceShown
 pub mod Checking
 pub mod Outcomes
+pub mod AdvanceOutcome
