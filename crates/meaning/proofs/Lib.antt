@@ -21,3 +21,4 @@ pub mod HandleTest
 pub mod Stored
 pub mod Read
 pub mod Smallest
+pub mod FreshWords

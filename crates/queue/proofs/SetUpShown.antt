@@ -1,18 +1,15 @@
 -- A queue that is set up shows the fresh model, and set-up keeps the number of words and those past the last cell.
 -- Assumes nothing.
-use Prim.Native.Nat.{ℕ, zero, suc, _+_, _*_, _/_, _≤_}
+use Prim.Native.Nat.{ℕ, _*_, _/_, _≤_}
 use native.Mathlib.Omega.{arith}
 use mathlib.Core.List.{List}
-use mathlib.Core.Logic.{_≢_}
 use mathlib.Core.Path.{_≡_, refl, sym, ap, _∙_}
 use lib.ListN.{length, drop}
-use Rattle.cells.specs.Words.{word}
-use Rattle.cells.specs.Stack.{Chain, link}
 use Rattle.cells.specs.Store.{freshWords}
 use Rattle.cells.proofs.Cases.{same?, atMost?}
-use Rattle.cells.proofs.Memory.{word-no-field, word-no-cell}
-use Rattle.cells.proofs.Fresh.{size-none, size-over, size-right, fresh-last, fresh-link, fresh-zero, fresh-length, fresh-tail, fresh-word}
-use Rattle.meaning.specs.Plain.{upFrom, fresh}
+use Rattle.cells.proofs.Fresh.{size-none, size-over, size-right, fresh-length, fresh-tail}
+use Rattle.meaning.specs.Plain.{fresh}
+use Rattle.meaning.proofs.FreshWords.{fresh-blank, fresh-free}
 use Rattle.meaning.proofs.Given.{given-either}
 use Rattle.meaning.proofs.Reached.{kept-fresh}
 use Rattle.queue.specs.Model.{freshModel}
@@ -24,31 +21,6 @@ use Rattle.queue.proofs.ModelRuns.{means-fresh}
 use Rattle.queue.proofs.SetUpCases.{arity-under, arity-over, arity-right, refused-size, refused-arity, accepted-both}
 
 module _ (w : List ℕ) where
-  -- Fresh words are 0 but for the links.
-  fresh-blank : (c f : ℕ) → f ≢ 4 → word (freshWords w) c f ≡ 0
-  fresh-blank c f n =
-      atMost? 8 f
-      (λ l. word-no-field (freshWords w) c f l)
-      (λ l.
-      atMost? (length w / 8) c
-      (λ k. word-no-cell (freshWords w) c f (rw (fresh-length w) k))
-      (λ k. fresh-word w c f k l ∙ fresh-zero (length w / 8) c f n))
-
-  -- "After set-up cell 0 is on top, then 1, and so on": the links lead through the cells from a on.
-  fresh-chain : (a k : ℕ) → a + suc k ≡ length w / 8 → Chain (link (freshWords w)) a (upFrom a (suc k))
-  unfolding upFrom
-  fresh-chain a zero e =
-      (refl, fresh-word w a 4 (omega arith) (omega arith) ∙ fresh-last (length w / 8) a (omega arith))
-  fresh-chain a (suc k) e =
-      let next : word (freshWords w) a 4 ≡ suc a =
-      fresh-word w a 4 (omega arith) (omega arith) ∙ fresh-link (length w / 8) a (λ q. omega arith) ∙ omega arith in
-      (refl, rw next (fresh-chain (suc a) k (omega arith)))
-
-  -- The free stack of a queue that is set up.
-  fresh-free : (n : ℕ) → n ≡ length w / 8 → 1 ≤ n → Chain (link (freshWords w)) 0 (upFrom 0 n)
-  fresh-free zero e l = absurd (omega arith)
-  fresh-free (suc k) e l = fresh-chain 0 k (omega arith)
-
   -- Head and words that an accepted set-up leaves show the fresh model.
   pub set-up-shows : (d : ℕ) → 1 ≤ length w / 8 → length w / 8 ≤ 4096 → 2 ≤ d → d ≤ 8
       → Shows (freshHead w d) (freshWords w) (freshModel d (length w / 8))
@@ -60,11 +32,11 @@ module _ (w : List ℕ) where
         cells = refl;
         counter = refl;
         size = ap (λ (n : ℕ). n / 8) (sym (fresh-length w));
-        free = fresh-free (length w / 8) refl some;
-        blank = λ c f l n o. fresh-blank c f n;
+        free = fresh-free w (length w / 8) refl some;
+        blank = λ c f l n o. fresh-blank w c f n;
         entries = tt;
         seats = record { table = λ p l. absurd (omega arith); place = λ p l. absurd (omega arith) };
-        beyond = λ p l. fresh-blank p 6 (omega arith);
+        beyond = λ p l. fresh-blank w p 6 (omega arith);
         valid =
             record {
               list = fresh (length w / 8) 0;

@@ -19,3 +19,4 @@ pub mod AdvanceShown
 pub mod Checking
 pub mod Outcomes
 pub mod AdvanceOutcome
+pub mod SetUpShown
