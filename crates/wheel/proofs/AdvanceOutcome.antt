@@ -70,10 +70,10 @@ unfolding recordsIn first-of others-of
 outputs-same zero xs ys l r d = d
 outputs-same (suc k) xs ys l r d =
     let rest : drop 4 xs ≡ drop 4 ys =
-        outputs-same k (drop 4 xs) (drop 4 ys)
-        (length-drop 4 xs ∙ ap (λ (n : ℕ). n - 4) l ∙ sym (length-drop 4 ys))
-        (ap others-of r)
-        (behind k xs ∙ d ∙ sym (behind k ys)) in
+    outputs-same k (drop 4 xs) (drop 4 ys)
+    (length-drop 4 xs ∙ ap (λ (n : ℕ). n - 4) l ∙ sym (length-drop 4 ys))
+    (ap others-of r)
+    (behind k xs ∙ d ∙ sym (behind k ys)) in
     front 4 xs ys l (four xs ys (ap (λ (s : List Shown). first-of s (recordIn xs)) r)) rest
 
 -- The same records are as many, and then the outputs are the same.
@@ -83,7 +83,7 @@ reports-same k k′ xs ys out l r p q =
     let same : k ≡ k′ = sym (records-count k xs) ∙ ap length r ∙ records-count k′ ys in
     let there : recordsIn k xs ≡ recordsIn k ys = r ∙ ap (λ (n : ℕ). recordsIn n ys) (sym same) in
     let rest : drop (k * 4) ys ≡ drop (k * 4) out =
-        ap (λ (n : ℕ). drop (n * 4) ys) same ∙ q ∙ ap (λ (n : ℕ). drop (n * 4) out) (sym same) in
+    ap (λ (n : ℕ). drop (n * 4) ys) same ∙ q ∙ ap (λ (n : ℕ). drop (n * 4) out) (sym same) in
     (same, outputs-same k xs ys l there (p ∙ sym rest))
 
 -- What an advance told, and the output it left, are determined by its answer and what stands behind the records.
@@ -129,11 +129,11 @@ module _ (target : ℕ) (h : Head) (w out : List ℕ) (a₁ a₂ : AdvanceAnswer
       (λ e.
       let m = sound-shown l d (audit-decides l d .0 e) in
       let same =
-          one-quick _ h w (toldAdvance a₁ out₁) (toldAdvance a₂ out₂) h₁ h₂ w₁ w₂ (m .model) (m .shows)
-          (p .advances .promise) (q .advances .promise) in
+      one-quick _ h w (toldAdvance a₁ out₁) (toldAdvance a₂ out₂) h₁ h₂ w₁ w₂ (m .model) (m .shows)
+      (p .advances .promise) (q .advances .promise) in
       let told =
-          told-same a₁ a₂ out₁ out₂ out (p .advances .room ∙ sym (q .advances .room)) (same .answer)
-          (p .advances .beyond (m .model) (m .shows)) (q .advances .beyond (m .model) (m .shows)) in
+      told-same a₁ a₂ out₁ out₂ out (p .advances .room ∙ sym (q .advances .room)) (same .answer)
+      (p .advances .beyond (m .model) (m .shows)) (q .advances .beyond (m .model) (m .shows)) in
       record { answer = told .0; head = same .head; words = same .words; output = told .1 })
       (λ e.
       let none : Broken l d = λ m s. clash (audit-decides l d .1 (shown-sound l d m s)) e in
