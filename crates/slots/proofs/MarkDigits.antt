@@ -1,18 +1,19 @@
 -- Marks as binary digits: setting and clearing one within 64, and the search for the lowest.
 -- Assumes nothing.
 use Prim.Native.Nat.{ℕ, zero, suc, _+_, _-_, _*_, _/_, _%_, _^_, _≤_, _<_}
-use native.Mathlib.Nat.{add-zero, add-suc, zero-add, suc-add, suc-mul, zero-mul, one-mul, pow-suc, mod-lt, zero-mod, zero-div, div-one, div-eq-of-lt, lt-of-lt-of-le}
+use native.Mathlib.Nat.{add-zero, add-suc, zero-add, suc-add, suc-mul, zero-mul, one-mul, pow-suc, mod-lt, zero-mod, zero-div, div-one, div-eq-of-lt, mod-eq-of-lt, lt-of-lt-of-le}
 use native.Mathlib.Omega.{arith}
 use mathlib.Core.Bool.{Bool, true, false, cond}
 use mathlib.Core.List.{List}
-use mathlib.Core.Path.{_≡_, refl, sym, ap, _∙_}
+use mathlib.Core.Path.{_≡_, refl, sym, ap, _∙_, subst}
 use lib.Arith.{digits-lt}
 use lib.Dec.{eqb, lit<}
 use lib.ListN.{getD}
-use lib.Pow.{pow-pos, pow-mono, pow-add, shr-lt, shl-exact, shr-shr, split, mod-mod-pow, field}
+use lib.Pow.{pow-pos, pow-mono, pow-add, shr-lt, shl-exact, shr-shr, split, mod-mod-pow, field, mod-pow-add}
 use borrow.Author.Tests.{eq-eqb, ne-eqb}
-use Rattle.cells.proofs.Cases.{atMost?}
-use Rattle.slots.specs.Rings.{isMarked, scan, slotMarked}
+use Rattle.cells.proofs.Cases.{atMost?, same?}
+use Rattle.slots.specs.Rings.{isMarked, scan, slotMarked, passed}
+use Rattle.slots.specs.declared.slots.Passed.{Passed}
 
 -- `1 << s` at 64 digits.
 pub one-shl : (s : ℕ) → s < 64 → (1 * 2 ^ s) % 2 ^ 64 ≡ 2 ^ s
@@ -123,6 +124,44 @@ lowest-end x s rest h l d =
     let some : 64 - s ≡ suc (63 - s) = omega arith in
     let here : eqb (x / 2 ^ s % 2) 1 ≡ true = eq-eqb (x / 2 ^ s % 2) 1 (omega (arith, d, ap (λ (n : ℕ). n % 2) (l .rests))) in
     sym (l .ends ∙ rw some (scan-here (isMarked x) (63 - s) s here))
+
+-- The search by halves: what is left is not all 0 in its lowest k digits.
+pub record Halved (x k : ℕ) (p : Passed) : Type 0 where
+  pub low : Lowest x (p .digits) (p .rest)
+  pub some : p .rest % 2 ^ k ≡ 0 → ⊥
+
+pub halved-start : (x : ℕ) → x < 2 ^ 64 → 0 < x → Halved x 64 (record { digits = 0; rest = x })
+halved-start x h some =
+    record { low = lowest-start x some; some = λ e. let same : x % 2 ^ 64 ≡ x = mod-eq-of-lt h in absurd (omega arith) }
+
+pub halved-small : (x k : ℕ) (p : Passed) → x < 2 ^ 64 → Halved x k p → p .digits < 64
+halved-small x k p h s = lowest-small x (p .digits) (p .rest) h (s .low)
+
+-- Where both halves of 2 k digits are 0, so are all of them.
+halves-clear : (n k : ℕ) → n % 2 ^ k ≡ 0 → n / 2 ^ k % 2 ^ k ≡ 0 → n % 2 ^ (k + k) ≡ 0
+halves-clear n k e f = mod-pow-add n k k ∙ omega (arith, e, ap (λ (m : ℕ). m * 2 ^ k) f, zero-mul (2 ^ k))
+
+-- A choice number by number, by one test, is the step.
+pub passed-picked : (p : Passed) (k span digits rest : ℕ) (t : Bool) → span ≡ 2 ^ k → t ≡ eqb (p .rest % span) 0
+    → digits ≡ cond t (p .digits + k) (p .digits)
+    → rest ≡ cond t (p .rest / span) (p .rest)
+    → _≡_ {A = Passed} (record { digits = digits; rest = rest }) (passed p k)
+unfolding passed
+passed-picked p k span digits rest t e f g h = cc
+
+-- The lower half is passed if it is all 0.
+pub halved-on : (x k : ℕ) (p q : Passed) → x < 2 ^ 64 → Halved x (k + k) p → q ≡ passed p k → Halved x k q
+unfolding passed
+halved-on x k p q h s is =
+    subst (λ (r : Passed). Halved x k r) (sym is)
+    (same? (p .rest % 2 ^ k) 0
+    (λ e.
+    rw (eq-eqb (p .rest % 2 ^ k) 0 e)
+    (record { low = lowest-on k x (p .digits) (p .rest) h (s .low) e; some = λ f. s .some (halves-clear (p .rest) k e f) }))
+    (λ d. rw (ne-eqb (p .rest % 2 ^ k) 0 d) (record { low = s .low; some = d })))
+
+pub halved-end : (x : ℕ) (p : Passed) → x < 2 ^ 64 → Halved x 1 p → p .digits ≡ scan (isMarked x) 64 0
+halved-end x p h s = lowest-end x (p .digits) (p .rest) h (s .low) (s .some)
 
 -- A level's marks are 64 slots.
 module _ (marks : List ℕ) (p m : ℕ) (h : p < 6) (e : m ≡ getD marks p 0) where

@@ -8,6 +8,7 @@ use lib.ListN.{length, getD, set}
 use Rattle.cells.specs.Stack.{noCell}
 use Rattle.cells.specs.Words.{word, putWord}
 use Rattle.slots.specs.declared.ring.Ends.{Ends}
+use Rattle.slots.specs.declared.slots.Passed.{Passed}
 
 -- The words and the ends of one list.
 pub record Ring : Type 0 where
@@ -108,6 +109,14 @@ leaveDue l c = withDue l (left (l .words) (l .due) c)
 unfoldable pub scan : (ℕ → Bool) → ℕ → ℕ → ℕ
 scan passes zero i = i
 scan passes (suc k) i = cond (passes i) i (scan passes k (suc i))
+
+-- A search for the lowest digit 1 passes k digits if they are all 0.
+unfoldable pub passed : Passed → ℕ → Passed
+passed p k =
+    record {
+      digits = cond (eqb (p .rest % 2 ^ k) 0) (p .digits + k) (p .digits);
+      rest = cond (eqb (p .rest % 2 ^ k) 0) (p .rest / 2 ^ k) (p .rest);
+    }
 
 -- Slot i is marked.
 unfoldable pub slotMarked : List ℕ → ℕ → Bool

@@ -4,7 +4,7 @@
 use crate::ring::Ends;
 use crate::ring::join;
 use crate::ring::leave;
-ghost use Prim.Native.Nat.{_/_, _%_, _<_};
+ghost use Prim.Native.Nat.{_/_, _%_, _^_, _≤_, _<_};
 ghost use mathlib.Core.Bool.{cond};
 ghost use mathlib.Core.List.{[]};
 ghost use mathlib.Core.Path.{_≡_};
@@ -23,6 +23,7 @@ ghost use Rattle.slots.specs.Rings.{
   emptySlot,
   firstCell,
   scan,
+  passed,
   firstMarked,
 };
 
@@ -213,23 +214,48 @@ pub fn marks_at(marks: &[u64], p: u64) -> u64
     0
 }
 
-// The lowest digit 1 of x, first by whole bytes.
+// Where a search for the lowest digit 1 stands: so many digits passed, and the number from there on.
+struct Passed {
+    digits: u64,
+    rest: u64,
+}
+
+// One of two numbers: chosen, and no branch.
+fn pick(t: bool, yes: u64, no: u64) -> u64
+    ensures { λ r. ⌜ r ≡ cond t yes no ⌝ }
+{
+    if t {
+        return yes;
+    }
+    no
+}
+
+// Passes k digits, of the span 2^k, if they are all 0. Chosen number by number: which of them are 0 cannot be guessed, so a branch would cost more.
+fn pass(p: Passed, k: u64, span: u64) -> Passed
+    requires { ⌜ (p .digits ≤ 64) × (k ≤ 64) × (span ≡ 2 ^ k) ⌝ }
+    ensures { λ r. ⌜ r ≡ passed p k ⌝ }
+{
+    let t = p.rest % span == 0;
+    Passed {
+        digits: pick(t, p.digits + k, p.digits),
+        rest: pick(t, p.rest / span, p.rest),
+    }
+}
+
+// The lowest digit 1 of x, by halves.
 fn lowest(x: u64) -> u64
     requires { ⌜ 0 < x ⌝ }
     ensures { λ r. ⌜ r ≡ scan (isMarked x) 64 0 ⌝ }
     ensures small { λ r. ⌜ r < 64 ⌝ }
 {
-    let mut rest = x;
-    let mut s: u64 = 0;
-    while rest % 256 == 0 {
-        rest = rest / 256;
-        s += 8;
-    }
-    while rest % 2 == 0 {
-        rest = rest / 2;
-        s += 1;
-    }
-    s
+    let start = Passed { digits: 0, rest: x };
+    let a = pass(start, 32, 4294967296);
+    let b = pass(a, 16, 65536);
+    let c = pass(b, 8, 256);
+    let d = pass(c, 4, 16);
+    let e = pass(d, 2, 4);
+    let f = pass(e, 1, 2);
+    f.digits
 }
 
 // The first marked slot, 384 where none is.

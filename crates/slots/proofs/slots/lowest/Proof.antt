@@ -1,75 +1,80 @@
--- `slots::slots::lowest` meets its contract. The invariant of both loops: rest has the digits from s on, and those before are 0. The measure is rest.
+-- `slots::slots::lowest` meets its contract: half of the digits that are left are passed if they are all 0, six times.
 -- Assumes nothing.
 use native.Mathlib.Omega.{arith}
-use Rattle.slots.proofs.MarkDigits.{Lowest, lowest-start, lowest-small, lowest-on, lowest-end}
+use mathlib.Core.Path.{refl}
+use Rattle.slots.proofs.MarkDigits.{halved-start, halved-small, halved-on, halved-end}
 use borrow.Author.Needs.{needs}
 use Rattle.slots.proofs.slots.lowest.Statement.{statement}
 use Rattle.slots.proofs.slots.lowest.Tie as tie
 
-abbrev Inv-loop : tie.InvT-loop
-Inv-loop x rest₀ s₀ rest s = Lowest x s rest
+pass-requires : tie.Need-pass-requires
+pass-requires c κs = search needs
 
-abbrev μ-loop : tie.MeasureT-loop
-μ-loop x rest₀ s₀ rest s = rest
+pass-requires-2 : tie.Need-pass-requires-2
+pass-requires-2 c κs =
+    let args = c .before in
+    let small = args .fits .x .fits in
+    let h1 = halved-on _ 32 _ _ small (halved-start _ small (args .pre)) (c .pass .ensures) in
+    (omega (arith, halved-small _ _ _ small h1), omega arith, refl)
 
-abbrev Inv-loop2 : tie.InvT-loop2
-Inv-loop2 x rest₀ s₀ rest s = Lowest x s rest
+pass-requires-3 : tie.Need-pass-requires-3
+pass-requires-3 c κs =
+    let args = c .before .before in
+    let small = args .fits .x .fits in
+    let h1 = halved-on _ 32 _ _ small (halved-start _ small (args .pre)) (c .before .pass .ensures) in
+    let h2 = halved-on _ 16 _ _ small (h1) (c .pass2 .ensures) in
+    (omega (arith, halved-small _ _ _ small h2), omega arith, refl)
 
-abbrev μ-loop2 : tie.MeasureT-loop2
-μ-loop2 x rest₀ s₀ rest s = rest
+pass-requires-4 : tie.Need-pass-requires-4
+pass-requires-4 c κs =
+    let args = c .before .before .before in
+    let small = args .fits .x .fits in
+    let h1 = halved-on _ 32 _ _ small (halved-start _ small (args .pre)) (c .before .before .pass .ensures) in
+    let h2 = halved-on _ 16 _ _ small (h1) (c .before .pass2 .ensures) in
+    let h3 = halved-on _ 8 _ _ small (h2) (c .pass3 .ensures) in
+    (omega (arith, halved-small _ _ _ small h3), omega arith, refl)
 
-loop-holds : tie.Need-loop-holds Inv-loop μ-loop Inv-loop2 μ-loop2
-loop-holds c = lowest-start _ (search needs)
+pass-requires-5 : tie.Need-pass-requires-5
+pass-requires-5 c κs =
+    let args = c .before .before .before .before in
+    let small = args .fits .x .fits in
+    let h1 = halved-on _ 32 _ _ small (halved-start _ small (args .pre)) (c .before .before .before .pass .ensures) in
+    let h2 = halved-on _ 16 _ _ small (h1) (c .before .before .pass2 .ensures) in
+    let h3 = halved-on _ 8 _ _ small (h2) (c .before .pass3 .ensures) in
+    let h4 = halved-on _ 4 _ _ small (h3) (c .pass4 .ensures) in
+    (omega (arith, halved-small _ _ _ small h4), omega arith, refl)
 
-add-s : tie.Need-add-s Inv-loop μ-loop Inv-loop2 μ-loop2
-add-s c =
-    let at = c .before in
-    omega (arith, lowest-small _ _ _ (at .before .fits .x .fits) (at .loop .inv))
+pass-requires-6 : tie.Need-pass-requires-6
+pass-requires-6 c κs =
+    let args = c .before .before .before .before .before in
+    let small = args .fits .x .fits in
+    let h1 = halved-on _ 32 _ _ small (halved-start _ small (args .pre)) (c .before .before .before .before .pass .ensures) in
+    let h2 = halved-on _ 16 _ _ small (h1) (c .before .before .before .pass2 .ensures) in
+    let h3 = halved-on _ 8 _ _ small (h2) (c .before .before .pass3 .ensures) in
+    let h4 = halved-on _ 4 _ _ small (h3) (c .before .pass4 .ensures) in
+    let h5 = halved-on _ 2 _ _ small (h4) (c .pass5 .ensures) in
+    (omega (arith, halved-small _ _ _ small h5), omega arith, refl)
 
-loop-less : tie.Need-loop-less Inv-loop μ-loop Inv-loop2 μ-loop2
-loop-less c =
-    let at = c .before in
-    omega (arith, at .loop .inv .some)
-
-loop-again : tie.Need-loop-again Inv-loop μ-loop Inv-loop2 μ-loop2
-loop-again c = let at = c .before in lowest-on 8 _ _ _ (at .before .fits .x .fits) (at .loop .inv) (search needs)
-
-loop2-holds : tie.Need-loop2-holds Inv-loop μ-loop Inv-loop2 μ-loop2
-loop2-holds c = c .before .loop .inv
-
-add-s-2 : tie.Need-add-s-2 Inv-loop μ-loop Inv-loop2 μ-loop2
-add-s-2 c =
-    let at = c .before in
-    omega (arith, lowest-small _ _ _ (at .before .before .before .fits .x .fits) (at .loop2 .inv))
-
-loop2-less : tie.Need-loop2-less Inv-loop μ-loop Inv-loop2 μ-loop2
-loop2-less c =
-    let at = c .before in
-    omega (arith, at .loop2 .inv .some)
-
-loop2-again : tie.Need-loop2-again Inv-loop μ-loop Inv-loop2 μ-loop2
-loop2-again c = let at = c .before in lowest-on 1 _ _ _ (at .before .before .before .fits .x .fits) (at .loop2 .inv) (search needs)
-
-returns : tie.Need-returns Inv-loop μ-loop Inv-loop2 μ-loop2
+returns : tie.Need-returns
 returns c =
-    let at = c .before in
-    let small = at .before .before .before .fits .x .fits in
-    (lowest-end _ _ _ small (at .loop2 .inv) (search needs), lowest-small _ _ _ small (at .loop2 .inv))
+    let args = c .before .before .before .before .before .before in
+    let small = args .fits .x .fits in
+    let h1 = halved-on _ 32 _ _ small (halved-start _ small (args .pre)) (c .before .before .before .before .before .pass .ensures) in
+    let h2 = halved-on _ 16 _ _ small (h1) (c .before .before .before .before .pass2 .ensures) in
+    let h3 = halved-on _ 8 _ _ small (h2) (c .before .before .before .pass3 .ensures) in
+    let h4 = halved-on _ 4 _ _ small (h3) (c .before .before .pass4 .ensures) in
+    let h5 = halved-on _ 2 _ _ small (h4) (c .before .pass5 .ensures) in
+    let h6 = halved-on _ 1 _ _ small (h5) (c .pass6 .ensures) in
+    (halved-end _ _ small h6, halved-small _ _ _ small h6)
 
 pub lowest-spec : {M : Type 1} → statement M
 lowest-spec =
     tie.close
     (tie.spec
-    Inv-loop
-    μ-loop
-    Inv-loop2
-    μ-loop2
-    loop-holds
-    add-s
-    loop-less
-    loop-again
-    loop2-holds
-    add-s-2
-    loop2-less
-    loop2-again
+    pass-requires
+    pass-requires-2
+    pass-requires-3
+    pass-requires-4
+    pass-requires-5
+    pass-requires-6
     returns)
