@@ -10,3 +10,5 @@ pub mod Wakes
 pub mod Bounds
 pub mod SetUps
 pub mod Demands
+pub mod CodeRuns
+pub mod QueueDemands
