@@ -12,3 +12,4 @@ pub mod SetUps
 pub mod Demands
 pub mod CodeRuns
 pub mod QueueDemands
+pub mod WheelDemands

@@ -21,7 +21,7 @@ use Rattle.queue.proofs.Meets.{meets}
 use Rattle.queue.proofs.ModelRuns.{means-fresh}
 use Rattle.queue.proofs.SetUpShown.{set-up-ready}
 use Rattle.promises.specs.Made.{Lent, Made, Runs, callsOf, toldBy, leftBy}
-use Rattle.promises.specs.QueueRuns.{OneCall, quick, checked, FromSetUp, answersOf, movesOf, Holds, modelAfter, modelMoves}
+use Rattle.promises.specs.QueueRuns.{OneCall, quick, checked, begun, FromSetUp, stateNow, listNow, answersOf, movesOf, Holds, modelAfter, modelMoves}
 use Rattle.promises.specs.Refusals.{NeverNine}
 use Rattle.promises.proofs.CodeRuns.{run-answers, run-holds, never-nine}
 
@@ -44,7 +44,7 @@ queue-follows call s t s′ p one h =
 
 -- An accepted set-up leaves the fresh list.
 pub queue-begins : (w : List ℕ) (d : ℕ) (h : Head) → setUpAnswer w d ≡ setUp.Ready h
-    → Holds (record { head = h; words = setUpWords w d }) (fresh (length w / 8) 0)
+    → Holds (begun w d h) (fresh (length w / 8) 0)
 unfolding freshModel
 queue-begins w d h ready =
     let shows = set-up-ready w d h ready in
@@ -70,25 +70,25 @@ module _ (w : List ℕ) (d : ℕ) (h : Head) (xs : List (Made Head Told)) (from 
   -- Demand 2: "From a set-up on, every answer is that of a plain list", over any calls, quick or checked.
   pub queue-answers : answersOf xs ≡ answers 64 6 (callsOf xs) (fresh (length w / 8) 0)
   queue-answers =
-      run-answers OneCall (λ (t : Told). t .answer) Holds queue-follows xs (record { head = h; words = setUpWords w d }) (fresh (length w / 8) 0)
+      run-answers OneCall (λ (t : Told). t .answer) Holds queue-follows xs (begun w d h) (fresh (length w / 8) 0)
       (from .run) (queue-begins w d h (from .ready))
 
   -- Head and memory are the plain list after the same calls.
-  pub queue-left : Holds (leftBy (record { head = h; words = setUpWords w d }) xs) (after 64 6 (callsOf xs) (fresh (length w / 8) 0))
+  pub queue-left : Holds (stateNow w d h xs) (listNow w xs)
   queue-left =
-      run-holds OneCall (λ (t : Told). t .answer) Holds queue-follows xs (record { head = h; words = setUpWords w d }) (fresh (length w / 8) 0)
+      run-holds OneCall (λ (t : Told). t .answer) Holds queue-follows xs (begun w d h) (fresh (length w / 8) 0)
       (from .run) (queue-begins w d h (from .ready))
 
   -- The moves of each call are those of the heap that the calls before it built.
   pub queue-moves : movesOf xs ≡ modelMoves (callsOf xs) (freshModel d (length w / 8))
   queue-moves =
-      model-run xs (record { head = h; words = setUpWords w d }) (freshModel d (length w / 8)) (from .run) (set-up-ready w d h (from .ready)) .0
+      model-run xs (begun w d h) (freshModel d (length w / 8)) (from .run) (set-up-ready w d h (from .ready)) .0
 
   -- Head and memory show that heap.
-  pub queue-heap : Shows (leftBy (record { head = h; words = setUpWords w d }) xs .head) (leftBy (record { head = h; words = setUpWords w d }) xs .words)
+  pub queue-heap : Shows (stateNow w d h xs .head) (stateNow w d h xs .words)
       (modelAfter (callsOf xs) (freshModel d (length w / 8)))
   queue-heap =
-      model-run xs (record { head = h; words = setUpWords w d }) (freshModel d (length w / 8)) (from .run) (set-up-ready w d h (from .ready)) .1
+      model-run xs (begun w d h) (freshModel d (length w / 8)) (from .run) (set-up-ready w d h (from .ready)) .1
 
   -- No call is told 9: what earlier calls left passes the audit.
   pub queue-never-nine : NeverNine (answersOf xs)

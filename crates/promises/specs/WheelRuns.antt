@@ -40,7 +40,7 @@ pub data OneCall (call : Call) (s : Lent Head) (a : Answer) (s′ : Lent Head) :
       → OneCall call s a s′
 
 -- Head and memory after a set-up of the words w at start t.
-unfoldable pub begun : List ℕ → ℕ → Lent Head
+abbrev pub begun : List ℕ → ℕ → Lent Head
 begun w t = record { head = setUpHead w t; words = setUpWords w t }
 
 -- "From a set-up on": the set-up was accepted, and then the calls xs were made.
@@ -53,10 +53,10 @@ abbrev pub answersOf : List (Made Head Answer) → List Answer
 answersOf xs = toldBy (λ (a : Answer). a) xs
 
 -- Head and memory after a set-up and calls, and the plain list after the same set-up and calls.
-unfoldable pub stateNow : List ℕ → ℕ → List (Made Head Answer) → Lent Head
+abbrev pub stateNow : List ℕ → ℕ → List (Made Head Answer) → Lent Head
 stateNow w t xs = leftBy (begun w t) xs
 
-unfoldable pub listNow : List ℕ → ℕ → List (Made Head Answer) → Plain
+abbrev pub listNow : List ℕ → ℕ → List (Made Head Answer) → Plain
 listNow w t xs = after 64 6 (callsOf xs) (fresh (length w / 8) t)
 
 -- "The meaning of both engines is a list of entries": head and memory show a model whose plain list is this.
