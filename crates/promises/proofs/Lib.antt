@@ -13,3 +13,5 @@ pub mod Demands
 pub mod CodeRuns
 pub mod QueueDemands
 pub mod WheelDemands
+pub mod WheelDemand3
+pub mod WheelTimers

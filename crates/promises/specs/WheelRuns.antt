@@ -5,7 +5,7 @@ use mathlib.Core.List.{List}
 use mathlib.Core.Path.{_≡_}
 use lib.ListN.{length}
 use Rattle.meaning.specs.Plain.{Plain, fresh}
-use Rattle.meaning.specs.Calls.{Call, Advance, OfWheel, Answer, result}
+use Rattle.meaning.specs.Calls.{Call, Arm, Advance, OfWheel, Answer, result}
 use Rattle.meaning.specs.Runs.{after}
 use Rattle.slots.specs.Rings.{Lists}
 use Rattle.dial.specs.Joined.{listed}
@@ -15,6 +15,7 @@ use Rattle.wheel.specs.SetUps.{setUpAnswer, setUpHead, setUpWords}
 use Rattle.wheel.specs.declared.head.Head.{Head}
 use Rattle.wheel.specs.declared.head.AdvanceAnswer.{AdvanceAnswer}
 use Rattle.wheel.specs.declared.head.SetUpAnswer.the-variants as setUp
+use Rattle.promises.specs.Demand3.{TellsAsOne}
 use Rattle.promises.specs.Made.{Lent, Made, Runs, callsOf, toldBy, leftBy}
 
 -- The lists of head and memory.
@@ -59,8 +60,27 @@ stateNow w t xs = leftBy (begun w t) xs
 abbrev pub listNow : List ℕ → ℕ → List (Made Head Answer) → Plain
 listNow w t xs = after 64 6 (callsOf xs) (fresh (length w / 8) t)
 
+-- The plain list after one arm more.
+abbrev pub armedNow : List ℕ → ℕ → List (Made Head Answer) → ℕ → ℕ → Plain
+armedNow w t xs e load = result 64 6 (Arm e load) (listNow w t xs) .next
+
 -- "The meaning of both engines is a list of entries": head and memory show a model whose plain list is this.
 pub record Holds (s : Lent Head) (p : Plain) : Type 0 where
   pub model : Plain
   pub shows : DialShows (lists s) (s .head .dial) model
   pub list : listed model ≡ p
+
+-- Demand 3: from head and memory that are the list p, advances of the code told `told` and left s₁; one advance of the code to u told `one` and left s₂.
+pub record CodeAsOne (u : ℕ) (p : Plain) (told : List Answer) (s₁ : Lent Head) (one : Answer) (s₂ : Lent Head) : Type 0 where
+  pub tells : TellsAsOne 64 6 u p told one
+  -- "the entries left": what both left is one list.
+  pub left : Plain
+  pub many : Holds s₁ left
+  pub alone : Holds s₂ left
+  -- "every later answer": whatever is called afterwards, quick or checked.
+  pub later :
+      (xs ys : List (Made Head Answer))
+      → Runs OneCall s₁ xs
+      → Runs OneCall s₂ ys
+      → callsOf xs ≡ callsOf ys
+      → answersOf xs ≡ answersOf ys
