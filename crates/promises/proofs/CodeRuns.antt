@@ -21,7 +21,6 @@ use Rattle.meaning.specs.Calls.{
   Advance,
   NextWake,
   Answer,
-  Refused,
   causes,
   result,
 }
@@ -29,6 +28,10 @@ use Rattle.meaning.specs.Runs.{after, answers}
 use Rattle.promises.specs.Made.{Lent, Made, Runs, callsOf, toldBy, leftBy}
 use Rattle.promises.specs.Refusals.{NeverNine}
 use Rattle.promises.proofs.Refusals.{refused-exactly}
+
+-- The same head and the same words are the same.
+pub lent-same : {Head : Type 0} (s s′ : Lent Head) → s .head ≡ s′ .head → s .words ≡ s′ .words → s ≡ s′
+lent-same s s′ e q = ap₂ (λ h w. record { head = h; words = w }) e q
 
 module _
     {Head Told : Type 0}

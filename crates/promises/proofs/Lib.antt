@@ -15,3 +15,5 @@ pub mod QueueDemands
 pub mod WheelDemands
 pub mod WheelDemand3
 pub mod WheelTimers
+pub mod Unchanged
+pub mod OneOutcome

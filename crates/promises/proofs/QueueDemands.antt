@@ -3,18 +3,18 @@
 use Prim.Native.Nat.{ℕ, _/_}
 use native.Mathlib.Omega.{arith}
 use mathlib.Core.List.{List, [], _∷_}
-use mathlib.Core.Path.{_≡_, refl, sym, ap₂, subst, _∙_}
+use mathlib.Core.Path.{_≡_, refl, ap₂, _∙_}
 use lib.ListN.{length}
 use Rattle.meaning.specs.Plain.{Plain, fresh}
-use Rattle.meaning.specs.Calls.{Call, Answer, result}
-use Rattle.meaning.specs.Runs.{after, answers}
+use Rattle.meaning.specs.Calls.{Call, result}
+use Rattle.meaning.specs.Runs.{answers}
 use Rattle.meaning.proofs.Reached.{kept-fresh, kept-call}
-use Rattle.queue.specs.Model.{Model, step, stepMoves, freshModel}
+use Rattle.queue.specs.Model.{Model, step, freshModel}
 use Rattle.queue.specs.Means.{OfQueue}
 use Rattle.queue.specs.Shows.{Shows}
 use Rattle.queue.specs.Answers.{Told}
 use Rattle.queue.specs.Promise.{Promise}
-use Rattle.queue.specs.SetUps.{setUpAnswer, setUpWords}
+use Rattle.queue.specs.SetUps.{setUpAnswer}
 use Rattle.queue.specs.declared.head.Head.{Head}
 use Rattle.queue.specs.declared.head.SetUp.the-variants as setUp
 use Rattle.queue.proofs.Meets.{meets}
@@ -26,7 +26,7 @@ use Rattle.promises.specs.Refusals.{NeverNine}
 use Rattle.promises.proofs.CodeRuns.{run-answers, run-holds, never-nine}
 
 -- What both kinds of calls promise.
-promised : (call : Call) (s : Lent Head) (t : Told) (s′ : Lent Head) → OneCall call s t s′
+pub promised : (call : Call) (s : Lent Head) (t : Told) (s′ : Lent Head) → OneCall call s t s′
     → OfQueue call × Promise call (s .head) (s .words) t (s′ .head) (s′ .words)
 promised call s t s′ (quick q p) = (q, p)
 promised call s t s′ (checked q p) = (q, p .promise)

@@ -3,12 +3,12 @@
 use Prim.Native.Nat.{ℕ, _≤_}
 use native.Mathlib.Omega.{arith}
 use mathlib.Core.List.{List, map}
-use mathlib.Core.Path.{_≡_, sym, ap, subst, ap₂, _∙_}
+use mathlib.Core.Path.{_≡_, sym, ap, subst, _∙_}
 use Rattle.meaning.specs.Plain.{Plain}
 use Rattle.meaning.specs.Calls.{Call, Advance, Answer, dueBy, result}
 use Rattle.meaning.specs.Runs.{after, answers}
 use Rattle.wheel.specs.declared.head.Head.{Head}
-use Rattle.promises.specs.Demand3.{Ask, asked, Brings, TellsAsOne, AsOne}
+use Rattle.promises.specs.Demand3.{Ask, asked, Brings, AsOne}
 use Rattle.promises.specs.Made.{Lent, Made, Runs, callsOf, leftBy}
 use Rattle.promises.specs.WheelRuns.{OneCall, FromSetUp, answersOf, stateNow, listNow, Holds, CodeAsOne}
 use Rattle.promises.proofs.CodeRuns.{run-holds}

@@ -18,8 +18,7 @@ use Rattle.meaning.proofs.Given.{given-free, free-given}
 use Rattle.dial.specs.Joined.{listed, step}
 use Rattle.dial.specs.Lent.{listsOf}
 use Rattle.dial.proofs.Listed.{step-plain}
-use Rattle.slots.specs.Rings.{Lists}
-use Rattle.wheel.specs.Answers.{toldSetUp, toldAdvance}
+use Rattle.wheel.specs.Answers.{toldSetUp}
 use Rattle.wheel.specs.Promise.{headLists, Promise}
 use Rattle.wheel.specs.SetUps.{setUpCauses, emptyHead, freshStore, setUpAnswer, setUpHead, setUpWords}
 use Rattle.wheel.specs.declared.head.Dial.{Dial}
@@ -29,6 +28,7 @@ use Rattle.wheel.specs.declared.head.SetUpAnswer.the-variants as setUp
 use Rattle.wheel.proofs.SetUpShown.{set-up-shows}
 use Rattle.promises.specs.Made.{Lent, Made, Runs, callsOf}
 use Rattle.promises.specs.WheelRuns.{
+  headOf,
   lists,
   OneCall,
   quick,
@@ -48,7 +48,7 @@ use Rattle.promises.proofs.CodeRuns.{run-answers, run-holds, never-nine
 
 -- The lists that a call in place is lent are those of the head of its arrays and numbers, so its promise is that of a quick call.
 pub in-place-lists : (w first last marks : List ℕ) (d : Dial)
-    → listsOf w first last marks (d .due) ≡ headLists (record { first = first; last = last; marks = marks; dial = d }) w
+    → listsOf w first last marks (d .due) ≡ headLists (headOf first last marks d) w
 unfolding headLists
 in-place-lists w first last marks d = refl
 

@@ -3,11 +3,11 @@
 use Prim.Native.Nat.{ℕ, _≤_, _<_}
 use native.Mathlib.Omega.{arith}
 use mathlib.Core.Bool.{Bool, true, false, cond}
-use mathlib.Core.List.{List, _∷_}
-use mathlib.Core.Option.{Option, none, some, Option·getD}
-use mathlib.Core.Path.{_≡_, refl, sym, ap, subst, _∙_}
+use mathlib.Core.List.{List}
+use mathlib.Core.Option.{Option, none, some}
+use mathlib.Core.Path.{_≡_, refl, sym, ap, _∙_}
 use Rattle.meaning.specs.Entries.{Entry, named}
-use Rattle.meaning.specs.Plain.{Plain, top, filed, files, apply}
+use Rattle.meaning.specs.Plain.{Plain, top, filed, files}
 use Rattle.meaning.specs.Refusals.{firstOf, stale, isNone}
 use Rattle.meaning.specs.Calls.{
   Call,

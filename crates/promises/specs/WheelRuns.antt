@@ -12,11 +12,16 @@ use Rattle.dial.specs.Joined.{listed}
 use Rattle.wheel.specs.Answers.{toldAdvance}
 use Rattle.wheel.specs.Promise.{headLists, DialShows, Promise, Advances, Checked, CheckedAdvance}
 use Rattle.wheel.specs.SetUps.{setUpAnswer, setUpHead, setUpWords}
+use Rattle.wheel.specs.declared.head.Dial.{Dial}
 use Rattle.wheel.specs.declared.head.Head.{Head}
 use Rattle.wheel.specs.declared.head.AdvanceAnswer.{AdvanceAnswer}
 use Rattle.wheel.specs.declared.head.SetUpAnswer.the-variants as setUp
 use Rattle.promises.specs.Demand3.{TellsAsOne}
 use Rattle.promises.specs.Made.{Lent, Made, Runs, callsOf, toldBy, leftBy}
+
+-- The head of the arrays that a call in place is lent and its numbers.
+abbrev pub headOf : List ℕ → List ℕ → List ℕ → Dial → Head
+headOf first last marks d = record { first = first; last = last; marks = marks; dial = d }
 
 -- The lists of head and memory.
 abbrev pub lists : Lent Head → Lists
