@@ -10,6 +10,7 @@ pub mod Wakes
 pub mod Bounds
 pub mod SetUps
 pub mod Demands
+pub mod ToldHandles
 pub mod CodeRuns
 pub mod QueueDemands
 pub mod WheelDemands
@@ -17,3 +18,4 @@ pub mod WheelDemand3
 pub mod WheelTimers
 pub mod Unchanged
 pub mod OneOutcome
+pub mod QueueEntries

@@ -23,6 +23,9 @@ use Rattle.dial.specs.declared.state.HowEnded.{HowEnded}
 use Rattle.dial.specs.declared.state.HowEnded.the-variants as how
 use Rattle.dial.specs.declared.state.Turn.{Turn}
 use Rattle.dial.specs.declared.state.TurnsEnded.{TurnsEnded}
+use Rattle.queue.specs.Answers.{Told}
+use Rattle.queue.specs.declared.head.Head as queueHead
+use Rattle.queue.proofs.Outcomes as queueOutcomes
 use Rattle.wheel.specs.Promise.{headLists, DialShows, Promise, Advances}
 use Rattle.wheel.specs.declared.head.AdvanceAnswer.{AdvanceAnswer}
 use Rattle.wheel.specs.declared.head.Dial.{Dial}
@@ -31,7 +34,12 @@ use Rattle.wheel.proofs.AdvanceOutcome.{SameAdvance, one-advance}
 use Rattle.wheel.proofs.Outcomes.{Same, one-quick}
 use Rattle.script.specs.Answers.{Laid}
 use Rattle.script.specs.Chunks.{carriedOf, Carried}
-use Rattle.promises.specs.WheelRuns.{headOf}
+use Rattle.promises.specs.Made.{Lent}
+use Rattle.promises.specs.QueueRuns as queueRuns
+use Rattle.promises.specs.WheelRuns.{headOf, OneCall, Holds}
+use Rattle.promises.proofs.CodeRuns.{lent-same}
+use Rattle.promises.proofs.QueueDemands as queueDemands
+use Rattle.promises.proofs.WheelDemands.{promised}
 
 -- Two outcomes that meet one equation are one.
 pub one-equation : {A : Type 0} (a b x : A) → a ≡ x → b ≡ x → a ≡ b
@@ -151,6 +159,26 @@ one-quick-advance target h w out m s a₁ a₂ h₁ h₂ w₁ w₂ out₁ out₂
     one-advance target h w out a₁ a₂ h₁ h₂ w₁ w₂ out₁ out₂
     (record { advances = p; broken = λ none. absurd (none m s) })
     (record { advances = q; broken = λ none. absurd (none m s) })
+
+-- "on audited state it answers as the checked call": where a list is held, calls of the code, quick or checked, have one outcome.
+pub wheel-one-call : (call : Call) (s : Lent Head) (p : Plain) → Holds s p → (a₁ a₂ : Answer) (s₁ s₂ : Lent Head) → OneCall call s a₁ s₁
+    → OneCall call s a₂ s₂
+    → (a₁ ≡ a₂) × (s₁ ≡ s₂)
+wheel-one-call call s p h a₁ a₂ s₁ s₂ one two =
+    let same =
+    one-quick call (s .head) (s .words) a₁ a₂ (s₁ .head) (s₂ .head) (s₁ .words) (s₂ .words) (h .model) (h .shows) (promised call s a₁ s₁ one .1)
+    (promised call s a₂ s₂ two .1) in
+    (same .answer, lent-same s₁ s₂ (same .head) (same .words))
+
+pub queue-one-call : (call : Call) (s : Lent queueHead.Head) (p : Plain) → queueRuns.Holds s p → (t₁ t₂ : Told) (s₁ s₂ : Lent queueHead.Head)
+    → queueRuns.OneCall call s t₁ s₁
+    → queueRuns.OneCall call s t₂ s₂
+    → (t₁ ≡ t₂) × (s₁ ≡ s₂)
+queue-one-call call s p h t₁ t₂ s₁ s₂ one two =
+    let same =
+    queueOutcomes.one-quick call (s .head) (s .words) t₁ t₂ (s₁ .head) (s₂ .head) (s₁ .words) (s₂ .words) (h .model) (h .shows)
+    (queueDemands.promised call s t₁ s₁ one .1) (queueDemands.promised call s t₂ s₂ two .1) in
+    (same .told, lent-same s₁ s₂ (same .head) (same .words))
 
 -- `write_text`, `write_number` and `write_line` of script.
 pub one-laid : (out : List ℕ) (at : ℕ) (text out₁ out₂ : List ℕ) (end₁ end₂ : ℕ) → Laid out at text out₁ end₁ → Laid out at text out₂ end₂

@@ -5,7 +5,7 @@ use mathlib.Core.List.{List, [], _∷_}
 use mathlib.Core.Path.{_≡_}
 use lib.ListN.{length}
 use Rattle.meaning.specs.Plain.{Plain, fresh}
-use Rattle.meaning.specs.Calls.{Call, Answer}
+use Rattle.meaning.specs.Calls.{Call, Put, Answer, result}
 use Rattle.meaning.specs.Runs.{after}
 use Rattle.meaning.specs.Kept.{Kept}
 use Rattle.queue.specs.Model.{Model, step, stepMoves}
@@ -45,6 +45,10 @@ stateNow w d h xs = leftBy (begun w d h) xs
 
 abbrev pub listNow : List ℕ → List (Made Head Told) → Plain
 listNow w xs = after 64 6 (callsOf xs) (fresh (length w / 8) 0)
+
+-- The plain list after one put more.
+abbrev pub putNow : List ℕ → List (Made Head Told) → ℕ → ℕ → Plain
+putNow w xs key load = result 64 6 (Put key load) (listNow w xs) .next
 
 -- "The meaning of both engines is a list of entries": head and memory show a model that means this list.
 pub record Holds (s : Lent Head) (p : Plain) : Type 0 where
