@@ -108,7 +108,9 @@ module _ (b n u : ℕ) (positive : 0 < b) where
       (whole (a′ ∷ rest) (result b n (asked a) s .next) (kept-call b n (asked a) s kept) (timed-call b n s kept timed (asked a) tt) (w .2)))
 
 -- Any accepted advances that bring the clock to u are as one advance to u with room for all.
-pub demand3 : (b n u r : ℕ) (asks : List Ask) (s : Plain) → 0 < b → Kept s → Timed b n s → Brings u asks (answers b n (map asked asks) s) → dueBy u (s .entries) ≤ r
+pub demand3 : (b n u r : ℕ) (asks : List Ask) (s : Plain) → 0 < b → Kept s → Timed b n s
+    → Brings u asks (answers b n (map asked asks) s)
+    → dueBy u (s .entries) ≤ r
     → AsOne b n u r asks s
 unfolding result handOut reportOf isRefused
 demand3 b n u r asks s positive kept timed brings roomy =

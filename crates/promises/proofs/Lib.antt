@@ -1,4 +1,4 @@
--- The promises over the plain list.
+-- The promises over the plain list, and over runs of the engines' code.
 pub mod Demand3
 pub mod Rounds
 pub mod Refusals
@@ -6,6 +6,7 @@ pub mod Handles
 pub mod Tickets
 pub mod Lives
 pub mod Fires
+pub mod FiredOnce
 pub mod Wakes
 pub mod Bounds
 pub mod SetUps
@@ -13,9 +14,9 @@ pub mod Demands
 pub mod ToldHandles
 pub mod CodeRuns
 pub mod QueueDemands
+pub mod QueueEntries
 pub mod WheelDemands
 pub mod WheelDemand3
 pub mod WheelTimers
 pub mod Unchanged
 pub mod OneOutcome
-pub mod QueueEntries

@@ -2,51 +2,19 @@
 -- Assumes nothing.
 use Prim.Native.Nat.{ℕ, suc, _+_, _≤_}
 use native.Mathlib.Omega.{arith}
-use mathlib.Core.Bool.{Bool, true, false, cond}
 use mathlib.Core.List.{List, [], _∷_, _++_, map}
-use mathlib.Core.Path.{_≡_, refl, ap}
-use lib.Dec.{leb}
-use lib.ListN.{take, drop}
+use mathlib.Core.Path.{_≡_, ap}
 use Rattle.cells.specs.Lists.{times, Rising}
 use Rattle.cells.proofs.Cases.{atMost?}
 use Rattle.cells.proofs.Lists.{all-map, times-append, rising-weaken, rising-above, rising-once}
-use Rattle.meaning.specs.Entries.{Entry, named, without, earliest}
+use Rattle.meaning.specs.Entries.{named, without}
 use Rattle.meaning.specs.Plain.{Plain, Change, stays, files, refiles, frees, hands, apply, filed, refiled}
-use Rattle.meaning.specs.Calls.{
-  Call,
-  Put,
-  First,
-  Take,
-  Rekey,
-  Remove,
-  Arm,
-  Move,
-  Cancel,
-  Advance,
-  NextWake,
-  Shown,
-  shown,
-  reportOf,
-  Outcome,
-  causes,
-  dueBy,
-  handOut,
-  advanced,
-  filing,
-  refiling,
-  freeing,
-  accepted,
-  refused,
-  outcome,
-  result,
-}
-use Rattle.meaning.specs.Runs.{after, answers}
+use Rattle.meaning.specs.Calls.{Call, outcome, result}
+use Rattle.meaning.specs.Runs.{after}
 use Rattle.meaning.proofs.Orders.{times-insert}
-use Rattle.meaning.proofs.Handles.{ticketOf, map-append, named-names, names-own, times-without}
+use Rattle.meaning.proofs.Handles.{ticketOf, named-names, names-own, times-without}
 use Rattle.meaning.specs.Kept.{Kept}
-use Rattle.promises.specs.Demand3.{reports, joined}
-use Rattle.promises.specs.Tickets.{takesOrder, givesTicket, endsTickets, over, firedTickets}
-use Rattle.meaning.proofs.Given.{given-either}
+use Rattle.promises.specs.Tickets.{takesOrder, givesTicket, endsTickets, over}
 use Rattle.meaning.proofs.Allowed.{Allowed, allowed, found}
 use Rattle.meaning.proofs.Kept.{split, unused}
 
@@ -141,61 +109,3 @@ once b n k calls s kept =
       rising-above k (s .counter) (over givesTicket b n calls s) h (tickets-rise b n calls s),
       kept .tickets k,
     ))
-
--- The records that a hand-out tells have the tickets of the entries that it ends.
-shown-tickets : (es : List Entry) → map (λ (x : Shown). x .ticket) (map shown es) ≡ map (λ (e : Entry). e .ticket) es
-unfolding shown
-shown-tickets [] = refl
-shown-tickets (e ∷ es) = ap (λ (l : List ℕ). e .ticket ∷ l) (shown-tickets es)
-
--- What an outcome tells fired it has ended.
-Tells : ℕ → Plain → Outcome → Type 0
-Tells k s o = times k (map (λ (x : Shown). x .ticket) (reportOf (o .answer) .fired)) ≤ times k (endsTickets (o .change) s)
-
-module _ (b n k : ℕ) (s : Plain) where
-  tells-handed : (done : Bool) (m c : ℕ) → Tells k s (handOut b n done m c s)
-  unfolding Tells handOut reportOf endsTickets
-  tells-handed done m c = omega (arith, ap (times k) (shown-tickets (take m (s .entries))))
-
-  tells-advance : (t r : ℕ) (enough : Bool)
-      → Tells k s (cond enough (handOut b n true (dueBy t (s .entries)) t s) (handOut b n false r (earliest (drop r (s .entries)) .key) s))
-  tells-advance t r true = tells-handed true (dueBy t (s .entries)) t
-  tells-advance t r false = tells-handed false r (earliest (drop r (s .entries)) .key)
-
-  -- Only an advance tells anything fired.
-  tells-accepted : (call : Call) → Tells k s (accepted b n call s)
-  unfolding Tells accepted filing refiling freeing advanced reportOf times
-  tells-accepted (Put key load) = omega arith
-  tells-accepted First = omega arith
-  tells-accepted Take = omega arith
-  tells-accepted (Rekey c j key) = omega arith
-  tells-accepted (Remove c j) = omega arith
-  tells-accepted (Arm e load) = omega arith
-  tells-accepted (Move c j e) = omega arith
-  tells-accepted (Cancel c j) = omega arith
-  tells-accepted (Advance t r) = tells-advance t r (leb (dueBy t (s .entries)) r)
-  tells-accepted NextWake = omega arith
-
-  tells-call : (call : Call) → Tells k s (outcome b n call s)
-  unfolding outcome
-  tells-call call =
-      given-either (Tells k s) refused (accepted b n call s) (causes b n call s)
-      (λ i. unfold Tells refused reportOf times in omega arith)
-      (λ f. tells-accepted call)
-
--- Over any calls, what is told fired is among what has ended.
-pub fired-ends : (b n k : ℕ) (calls : List Call) (s : Plain) → times k (firedTickets (answers b n calls s)) ≤ times k (over endsTickets b n calls s)
-unfolding firedTickets reports joined answers over result times Tells
-fired-ends b n k [] s = omega arith
-fired-ends b n k (call ∷ calls) s =
-    let ch : Change = outcome b n call s .change in
-    let here : List Shown = reportOf (outcome b n call s .answer) .fired in
-    let rest : List Shown = joined (reports (answers b n calls (apply ch s))) in
-    omega (
-      arith,
-      tells-call b n k s call,
-      fired-ends b n k calls (apply ch s),
-      ap (times k) (map-append (λ (x : Shown). x .ticket) here rest),
-      times-append k (map (λ (x : Shown). x .ticket) here) (map (λ (x : Shown). x .ticket) rest),
-      times-append k (endsTickets ch s) (over endsTickets b n calls (apply ch s)),
-    )

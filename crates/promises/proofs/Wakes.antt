@@ -48,7 +48,8 @@ wake-earliest b n s e es positive q o w =
     rw q
     (rw (eq-eqb (dueBy (s .clock) (e ∷ es)) 0 (due-none (s .clock) e es (omega (arith, w .0 .late))))
     (smallest-is (wakeAt b n (s .clock) e) (map (wakeAt b n (s .clock)) (e ∷ es))
-    (all-wakes b n (s .clock) (wakeAt b n (s .clock) e) (e ∷ es) (omega arith, later-wakes es (all-both (λ (x : Entry). before e x ≡ true) (Within b n (s .clock)) es (o .0) (w .1))))
+    (all-wakes b n (s .clock) (wakeAt b n (s .clock) e) (e ∷ es)
+    (omega arith, later-wakes es (all-both (λ (x : Entry). before e x ≡ true) (Within b n (s .clock)) es (o .0) (w .1))))
     (λ others. others .0 refl))))
   where
     later-wakes : (xs : List Entry) → All (λ (x : Entry). (before e x ≡ true) × Within b n (s .clock) x) xs

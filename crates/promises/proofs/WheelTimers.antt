@@ -5,10 +5,11 @@ use native.Mathlib.Omega.{arith}
 use mathlib.Core.Bool.{true, false, cond}
 use mathlib.Core.List.{List}
 use mathlib.Core.Option.{none, some}
+use mathlib.Core.Logic.{_≢_}
 use mathlib.Core.Path.{_≡_, ap, _∙_}
 use lib.Dec.{leb}
 use lib.ListN.{length, replicate}
-use Rattle.cells.specs.Lists.{times}
+use Rattle.cells.specs.Lists.{All, times}
 use Rattle.places.specs.Ticks.{lastTick}
 use Rattle.meaning.specs.Entries.{named}
 use Rattle.meaning.specs.Plain.{fresh, filed}
@@ -40,10 +41,11 @@ use Rattle.promises.proofs.Bounds.{timer-bound}
 use Rattle.promises.proofs.CodeRuns.{run-holds}
 use Rattle.promises.proofs.Fires.{fires, passed}
 use Rattle.promises.proofs.Rounds.{rounds}
-use Rattle.promises.proofs.Tickets.{once, fired-ends}
+use Rattle.promises.proofs.Tickets.{once}
+use Rattle.promises.proofs.FiredOnce.{fired-ends, ended-fired}
 use Rattle.promises.proofs.Lives.{arm-files}
 use Rattle.promises.proofs.ToldHandles.{Filed, told-handle, filed-new, filed-life, told-cancel, told-stale}
-use Rattle.promises.proofs.WheelDemands.{ours, wheel-follows, holds-kept, holds-timed, holds-clock, wheel-begins, wheel-answers, wheel-left}
+use Rattle.promises.proofs.WheelDemands.{ours, wheel-follows, holds-kept, holds-timed, holds-clock, told-plain, wheel-begins, wheel-answers, wheel-left}
 
 module _ (w : List ℕ) (t : ℕ) (xs : List (Made Head Answer)) (from : FromSetUp w t xs) where
   held : Holds (stateNow w t xs) (listNow w t xs)
@@ -91,16 +93,31 @@ module _ (w : List ℕ) (t : ℕ) (xs : List (Made Head Answer)) (from : FromSet
           ∙ told-stale c k (after 64 6 (callsOf later) (armedNow w t xs e load)) (ended 64 6 c k (callsOf later) (armedNow w t xs e load)) load wheel-names over
           .move e′
 
-      -- Demand 2: "Nothing fires .. never once the clock is brought past it": a timer that no call moved has ended by the time the head's clock is past its deadline.
+      -- Demand 2: "Nothing fires .. never once the clock is brought past it":
+      -- a timer that no call moved has ended by the time the head's clock is past its deadline.
       pub wheel-passed : moved 64 6 c k (callsOf later) (armedNow w t xs e load) ≡ false → e < leftBy s later .head .dial .clock
           → ended 64 6 c k (callsOf later) (armedNow w t xs e load) ≡ true
       wheel-passed still past =
-          passed 64 6 c k (filed e load (listNow w t xs)) (callsOf later) (armedNow w t xs e load) (ours later s run) (holds-kept s (armedNow w t xs e load) holds-armed)
+          passed 64 6 c k (filed e load (listNow w t xs)) (callsOf later) (armedNow w t xs e load) (ours later s run)
+          (holds-kept s (armedNow w t xs e load) holds-armed)
           (holds-timed s (armedNow w t xs e load) holds-armed) new still
           (unfold filed in omega (arith, holds-clock (leftBy s later) (after 64 6 (callsOf later) (armedNow w t xs e load)) holds-later))
         where
-          new : named c k ((armedNow w t xs e load) .entries) ≡ some (filed e load (listNow w t xs))
+          new : named c k (armedNow w t xs e load .entries) ≡ some (filed e load (listNow w t xs))
           new = filed-new (Arm e load) e load c k (listNow w t xs) (holds-kept (stateNow w t xs) (listNow w t xs) held) arms-as
+
+      -- So a timer that no call moved or cancelled has been told fired, and once, by the time the head's clock is past its deadline.
+      pub wheel-fired : moved 64 6 c k (callsOf later) (armedNow w t xs e load) ≡ false → All (λ (call : Call). call ≢ Cancel c k) (callsOf later)
+          → e < leftBy s later .head .dial .clock
+          → times k (firedTickets (answersOf later)) ≡ 1
+      wheel-fired still kept past =
+          rw (told-plain s (armedNow w t xs e load) holds-armed later run)
+          (omega (
+            arith,
+            ended-fired 64 6 c k (callsOf later) (armedNow w t xs e load) (ours later s run) kept (wheel-passed still past),
+            fired-ends 64 6 k (callsOf later) (armedNow w t xs e load),
+            once 64 6 k (callsOf later) (armedNow w t xs e load) (holds-kept s (armedNow w t xs e load) holds-armed),
+          ))
 
   -- Demand 2: "Nothing fires early", and after *done* nothing at or below the target is left.
   pub wheel-fires : (u r : ℕ) (a : Answer) (s : Lent Head) → OneCall (Advance u r) (stateNow w t xs) a s → isRefused a ≡ false
