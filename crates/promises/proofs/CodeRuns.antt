@@ -21,6 +21,7 @@ use Rattle.meaning.specs.Calls.{
   Advance,
   NextWake,
   Answer,
+  Refused,
   causes,
   result,
 }
@@ -83,14 +84,14 @@ unnumbered b n (Advance t r) s = (λ e. omega arith, (λ e. omega arith, tt))
 unnumbered b n NextWake s = tt
 
 -- So a plain list never answers 9.
+pub not-nine : (b n : ℕ) (call : Call) (s : Plain) → result b n call s .answer ≢ Refused 9
+not-nine b n call s e =
+    let f = refused-exactly b n 9 call s .0 e in
+    all-amid (λ (c : Cause). c .number ≢ 9) (f .earlier) (f .cause) (f .rest)
+    (subst (All (λ (c : Cause). c .number ≢ 9)) (f .list) (unnumbered b n call s))
+    (f .number)
+
 pub never-nine : (b n : ℕ) (calls : List Call) (s : Plain) → NeverNine (answers b n calls s)
 unfolding answers
 never-nine b n [] s = tt
-never-nine b n (call ∷ calls) s = (
-  λ e.
-      let f = refused-exactly b n 9 call s .0 e in
-      all-amid (λ (c : Cause). c .number ≢ 9) (f .earlier) (f .cause) (f .rest)
-      (subst (All (λ (c : Cause). c .number ≢ 9)) (f .list) (unnumbered b n call s))
-      (f .number),
-  never-nine b n calls (result b n call s .next),
-)
+never-nine b n (call ∷ calls) s = (not-nine b n call s, never-nine b n calls (result b n call s .next))

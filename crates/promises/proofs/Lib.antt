@@ -18,5 +18,6 @@ pub mod QueueEntries
 pub mod WheelDemands
 pub mod WheelDemand3
 pub mod WheelTimers
+pub mod ToldRefusals
 pub mod Unchanged
 pub mod OneOutcome
