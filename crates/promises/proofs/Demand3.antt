@@ -43,13 +43,13 @@ record Whole (b n u : ℕ) (asks : List Ask) (s : Plain) : Type 0 where
   forward : s .clock ≤ u
   inside : u ≤ lastTick b n
   leaves : after b n (map asked asks) s ≡ apply (hands (dueBy u (s .entries)) u) s
-  gives : joined (reports b n asks s) ≡ map shown (take (dueBy u (s .entries)) (s .entries))
-  counts : total (reports b n asks s) ≡ allMoves b n (s .clock) u (s .entries)
+  gives : joined (reports (answers b n (map asked asks) s)) ≡ map shown (take (dueBy u (s .entries)) (s .entries))
+  counts : total (reports (answers b n (map asked asks) s)) ≡ allMoves b n (s .clock) u (s .entries)
 
 module _ (b n u : ℕ) (positive : 0 < b) where
   -- The last advance: it is done at u, so u is its target.
-  whole-last : (a : Ask) (s : Plain) → Kept s → Timed b n s → Brings b n u (a ∷ []) s → Whole b n u (a ∷ []) s
-  unfolding asked result causes beyond reports joined total after reportOf reportedBy
+  whole-last : (a : Ask) (s : Plain) → Kept s → Timed b n s → Brings u (a ∷ []) (answers b n (map asked (a ∷ [])) s) → Whole b n u (a ∷ []) s
+  unfolding asked result causes beyond reports joined total after answers reportOf reportedBy
   whole-last a s kept timed w =
       let f : Free (causes b n (asked a) s) = accepted-free b n (asked a) s (w .0) in
       let h : Handed b n (a .target) (a .room) s = advance-hands b n s kept timed (a .target) (a .room) f in
@@ -70,7 +70,7 @@ module _ (b n u : ℕ) (positive : 0 < b) where
   whole-split : (a : Ask) (rest : List Ask) (s : Plain) → Timed b n s → (h : Handed b n (a .target) (a .room) s)
       → Whole b n u rest (apply (hands (h .m) (h .c)) s)
       → Whole b n u (a ∷ rest) s
-  unfolding asked reports joined total after reportOf reportedBy apply
+  unfolding asked reports joined total after answers reportOf reportedBy apply
   whole-split a rest s timed h v =
       let answer = handed-answer b n (a .target) (a .room) s h in
       let next = handed-next b n (a .target) (a .room) s h in
@@ -85,19 +85,19 @@ module _ (b n u : ℕ) (positive : 0 < b) where
             ap (after b n (map asked rest)) next
             ∙ (v .leaves ∙ hands-twice (h .m) (h .c) k u s ∙ ap (λ (j : ℕ). apply (hands j u) s) number);
         gives =
-            ap₂ (λ (x : Answer) (y : Plain). reportOf x .fired ++ joined (reports b n rest y)) answer next
+            ap₂ (λ (x : Answer) (y : Plain). reportOf x .fired ++ joined (reports (answers b n (map asked rest) y))) answer next
             ∙ ap (λ (l : List Shown). map shown (take (h .m) (s .entries)) ++ l) (v .gives)
             ∙ (sym (map-append shown (take (h .m) (s .entries)) (take k (drop (h .m) (s .entries))))
             ∙ ap (map shown) (sym (take-add (h .m) k (s .entries)))
             ∙ ap (λ (j : ℕ). map shown (take j (s .entries))) number);
         counts =
-            ap₂ (λ (x : Answer) (y : Plain). reportOf x .moves + total (reports b n rest y)) answer next
+            ap₂ (λ (x : Answer) (y : Plain). reportOf x .moves + total (reports (answers b n (map asked rest) y))) answer next
             ∙ ap (λ (j : ℕ). allMoves b n (s .clock) (h .c) (s .entries) + j) (v .counts)
             ∙ (allMoves-split b n u positive (h .m) (h .c) s timed (h .forward) below (h .early) (h .late));
       }
 
-  whole : (asks : List Ask) (s : Plain) → Kept s → Timed b n s → Brings b n u asks s → Whole b n u asks s
-  unfolding asked
+  whole : (asks : List Ask) (s : Plain) → Kept s → Timed b n s → Brings u asks (answers b n (map asked asks) s) → Whole b n u asks s
+  unfolding asked answers
   whole [] s kept timed w = absurd w
   whole (a ∷ []) s kept timed w = whole-last a s kept timed w
   whole (a ∷ a′ ∷ rest) s kept timed w =
@@ -108,7 +108,9 @@ module _ (b n u : ℕ) (positive : 0 < b) where
       (whole (a′ ∷ rest) (result b n (asked a) s .next) (kept-call b n (asked a) s kept) (timed-call b n s kept timed (asked a) tt) (w .2)))
 
 -- Any accepted advances that bring the clock to u are as one advance to u with room for all.
-pub demand3 : (b n u r : ℕ) (asks : List Ask) (s : Plain) → 0 < b → Kept s → Timed b n s → Brings b n u asks s → dueBy u (s .entries) ≤ r
+pub demand3 : (b n u r : ℕ) (asks : List Ask) (s : Plain) → 0 < b → Kept s → Timed b n s
+    → Brings u asks (answers b n (map asked asks) s)
+    → dueBy u (s .entries) ≤ r
     → AsOne b n u r asks s
 unfolding result handOut reportOf isRefused
 demand3 b n u r asks s positive kept timed brings roomy =
@@ -116,12 +118,16 @@ demand3 b n u r asks s positive kept timed brings roomy =
     let one = advance-done b n u r s (advance-free b n u r s (w .forward) (w .inside)) roomy in
     let left : after b n (map asked asks) s ≡ result b n (Advance u r) s .next = rw one (w .leaves) in
     record {
-      accepted = rw one;
-      done = rw one;
-      fired = rw one (w .gives);
+      told =
+          record {
+            accepted = rw one;
+            done = rw one;
+            clock = rw one;
+            fired = rw one (w .gives);
+            moves = rw one (w .counts);
+            formula = w .counts;
+            bound = omega (arith, w .counts, allMoves-bound b n (s .clock) u (s .entries));
+          };
       left = left;
       later = λ calls. ap (answers b n calls) left;
-      moves = rw one (w .counts);
-      formula = w .counts;
-      bound = omega (arith, w .counts, allMoves-bound b n (s .clock) u (s .entries));
     }

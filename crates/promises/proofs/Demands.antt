@@ -3,15 +3,15 @@
 use Prim.Native.Nat.{ℕ, _≤_, _<_}
 use native.Mathlib.Omega.{arith}
 use mathlib.Core.Bool.{true, false, cond}
-use mathlib.Core.List.{List, _∷_}
+use mathlib.Core.List.{List, _∷_, map}
 use mathlib.Core.Option.{none, some}
 use mathlib.Core.Path.{_≡_}
 use Rattle.cells.specs.Lists.{All}
 use Rattle.meaning.specs.Entries.{Entry, named}
 use Rattle.meaning.specs.Plain.{Plain, top}
 use Rattle.meaning.specs.Calls.{Call, Arm, OfWheel, Advance, isRefused, dueBy, result, setUpWheel}
-use Rattle.meaning.specs.Runs.{after}
-use Rattle.promises.specs.Demand3.{Ask, Brings, AsOne}
+use Rattle.meaning.specs.Runs.{after, answers}
+use Rattle.promises.specs.Demand3.{Ask, asked, Brings, AsOne}
 use Rattle.promises.specs.Handles.{ended, loadOf}
 use Rattle.promises.specs.Fires.{Fires, moved}
 use Rattle.promises.specs.Bounds.{movesOver}
@@ -41,7 +41,8 @@ module _
         life 64 6 e load (Arm e load) left (wheel-kept 64 6 cells t before accepts calls) (arm-files 64 6 e load left a) later
 
     -- Demand 2: nothing fires early, and after *done* nothing at or below the target is left.
-    pub from-advance : (u r : ℕ) → isRefused (result 64 6 (Advance u r) left .answer) ≡ false → Fires 64 6 u r left
+    pub from-advance : (u r : ℕ) → isRefused (result 64 6 (Advance u r) left .answer) ≡ false
+        → Fires u left (result 64 6 (Advance u r) left .answer) (result 64 6 (Advance u r) left .next)
     unfolding left
     from-advance u r a = fires 64 6 u r left (wheel-kept 64 6 cells t before accepts calls) (wheel-timed 64 6 cells t before accepts calls ours) a
 
@@ -55,7 +56,7 @@ module _
         passed 64 6 c k e later left w (wheel-kept 64 6 cells t before accepts calls) (wheel-timed 64 6 cells t before accepts calls ours) q m p
 
     -- Demand 3: any accepted advances that bring the clock to u are as one with room for all.
-    pub from-asks : (u r : ℕ) (asks : List Ask) → Brings 64 6 u asks left → dueBy u (left .entries) ≤ r → AsOne 64 6 u r asks left
+    pub from-asks : (u r : ℕ) (asks : List Ask) → Brings u asks (answers 64 6 (map asked asks) left) → dueBy u (left .entries) ≤ r → AsOne 64 6 u r asks left
     unfolding left
     from-asks u r asks b room =
         demand3 64 6 u r asks left (omega arith) (wheel-kept 64 6 cells t before accepts calls)

@@ -34,7 +34,8 @@ unfolding shown
 all-shown c [] a = tt
 all-shown c (e ∷ es) a = (a .0, all-shown c es (a .1))
 
-pub fires : (b n t r : ℕ) (s : Plain) → Kept s → Timed b n s → isRefused (result b n (Advance t r) s .answer) ≡ false → Fires b n t r s
+pub fires : (b n t r : ℕ) (s : Plain) → Kept s → Timed b n s → isRefused (result b n (Advance t r) s .answer) ≡ false
+    → Fires t s (result b n (Advance t r) s .answer) (result b n (Advance t r) s .next)
 unfolding reportOf reportedBy apply
 fires b n t r s kept timed e =
     let f : Free (causes b n (Advance t r) s) = accepted-free b n (Advance t r) s (unfold result in e) in

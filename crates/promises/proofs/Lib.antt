@@ -1,4 +1,4 @@
--- The promises over the plain list.
+-- The promises over the plain list, and over runs of the engines' code.
 pub mod Demand3
 pub mod Rounds
 pub mod Refusals
@@ -6,7 +6,18 @@ pub mod Handles
 pub mod Tickets
 pub mod Lives
 pub mod Fires
+pub mod FiredOnce
 pub mod Wakes
 pub mod Bounds
 pub mod SetUps
 pub mod Demands
+pub mod ToldHandles
+pub mod CodeRuns
+pub mod QueueDemands
+pub mod QueueEntries
+pub mod WheelDemands
+pub mod WheelDemand3
+pub mod WheelTimers
+pub mod ToldRefusals
+pub mod Unchanged
+pub mod OneOutcome

@@ -1,6 +1,6 @@
 -- Next wake: none exactly where nothing stands, else when the list of the earliest entry is looked at next.
 -- Assumes nothing.
-use Prim.Native.Nat.{ℕ, _≤_, _<_, min}
+use Prim.Native.Nat.{ℕ, _≤_, _<_}
 use native.Mathlib.Omega.{arith}
 use mathlib.Core.Bool.{true}
 use mathlib.Core.List.{List, [], _∷_, map}
@@ -15,18 +15,11 @@ use Rattle.places.proofs.Digits.{tick-below}
 use Rattle.places.proofs.Wakes.{wake-now, wake-mono}
 use Rattle.meaning.specs.Entries.{Entry, before, Ordered}
 use Rattle.meaning.specs.Plain.{Plain}
-use Rattle.meaning.specs.Calls.{dueBy, least, smallest, nextWake}
+use Rattle.meaning.specs.Calls.{dueBy, smallest, nextWake}
 use Rattle.meaning.proofs.Orders.{before-atMost}
 use Rattle.meaning.proofs.Due.{due-more, due-none}
+use Rattle.meaning.proofs.Smallest.{smallest-is}
 use Rattle.meaning.specs.Kept.{Within}
-
--- A number that is at most all others is the least.
-least-first : (x : ℕ) (ys : List ℕ) → All (λ (y : ℕ). x ≤ y) ys → least x ys ≡ x
-unfolding least
-least-first x [] a = refl
-least-first x (y ∷ ys) a =
-    let same : min x y ≡ x = omega (arith, a .0) in
-    ap (λ (z : ℕ). least z ys) same ∙ least-first x ys (a .1)
 
 -- When the list in which an entry stands is looked at next.
 unfoldable pub wakeAt : ℕ → ℕ → ℕ → Entry → ℕ
@@ -44,7 +37,7 @@ wake-none b n s q = rw q
 pub wake-earliest : (b n : ℕ) (s : Plain) (e : Entry) (es : List Entry) → 0 < b → s .entries ≡ e ∷ es → Ordered (e ∷ es)
     → All (Within b n (s .clock)) (e ∷ es)
     → nextWake b n s ≡ some (wakeAt b n (s .clock) e)
-unfolding nextWake smallest wakeAt
+unfolding nextWake wakeAt
 wake-earliest b n s e es positive q o w =
     same? (s .clock) (e .key)
     (λ d.
@@ -54,9 +47,10 @@ wake-earliest b n s e es positive q o w =
     (λ d.
     rw q
     (rw (eq-eqb (dueBy (s .clock) (e ∷ es)) 0 (due-none (s .clock) e es (omega (arith, w .0 .late))))
-    (ap some
-    (least-first (wakeAt b n (s .clock) e) (map (wakeAt b n (s .clock)) es)
-    (all-wakes b n (s .clock) (wakeAt b n (s .clock) e) es (later-wakes es (all-both (λ (x : Entry). before e x ≡ true) (Within b n (s .clock)) es (o .0) (w .1))))))))
+    (smallest-is (wakeAt b n (s .clock) e) (map (wakeAt b n (s .clock)) (e ∷ es))
+    (all-wakes b n (s .clock) (wakeAt b n (s .clock) e) (e ∷ es)
+    (omega arith, later-wakes es (all-both (λ (x : Entry). before e x ≡ true) (Within b n (s .clock)) es (o .0) (w .1))))
+    (λ others. others .0 refl))))
   where
     later-wakes : (xs : List Entry) → All (λ (x : Entry). (before e x ≡ true) × Within b n (s .clock) x) xs
         → All (λ (x : Entry). wakeAt b n (s .clock) e ≤ wakeAt b n (s .clock) x) xs

@@ -8,7 +8,7 @@ use mathlib.Core.List.{List, [], _∷_, _++_, map}
 use mathlib.Core.Path.{_≡_}
 use lib.ListN.{length}
 use Rattle.meaning.specs.Plain.{Plain}
-use Rattle.meaning.specs.Calls.{Call, Advance, Shown, Report, isRefused, reportOf, result, allMoves}
+use Rattle.meaning.specs.Calls.{Call, Advance, Answer, Shown, Report, isRefused, reportOf, result, allMoves}
 use Rattle.meaning.specs.Runs.{after, answers}
 
 -- An advance that is asked for: its target and its room.
@@ -19,10 +19,9 @@ pub record Ask : Type 0 where
 unfoldable pub asked : Ask → Call
 asked a = Advance (a .target) (a .room)
 
--- What the advances report, each called on the list that the one before left.
-unfoldable pub reports : ℕ → ℕ → List Ask → Plain → List Report
-reports b n [] s = []
-reports b n (a ∷ rest) s = reportOf (result b n (asked a) s .answer) ∷ reports b n rest (result b n (asked a) s .next)
+-- What advances that told these answers report.
+unfoldable pub reports : List Answer → List Report
+reports told = map reportOf told
 
 -- "The firings joined"
 unfoldable pub joined : List Report → List Shown
@@ -34,24 +33,26 @@ unfoldable pub total : List Report → ℕ
 total [] = zero
 total (r ∷ rs) = r .moves + total rs
 
--- "any accepted advances with targets up to U", "the last one answering "done" at U"
-abbrev pub Brings : ℕ → ℕ → ℕ → List Ask → Plain → Type 0
-Brings b n u [] s = ⊥
-Brings b n u (a ∷ []) s =
-    (isRefused (result b n (asked a) s .answer) ≡ false)
-    × (reportOf (result b n (asked a) s .answer) .done ≡ true)
-    × (reportOf (result b n (asked a) s .answer) .clock ≡ u)
-Brings b n u (a ∷ a′ ∷ rest) s =
-    (isRefused (result b n (asked a) s .answer) ≡ false) × (a .target ≤ u) × Brings b n u (a′ ∷ rest) (result b n (asked a) s .next)
+-- "any accepted advances with targets up to U", "the last one answering "done" at U": by what was asked, and what was told.
+abbrev pub Brings : ℕ → List Ask → List Answer → Type 0
+Brings u [] told = ⊥
+Brings u (a ∷ asks) [] = ⊥
+Brings u (a ∷ []) (t ∷ told) = (isRefused t ≡ false) × (reportOf t .done ≡ true) × (reportOf t .clock ≡ u)
+Brings u (a ∷ a′ ∷ rest) (t ∷ told) = (isRefused t ≡ false) × (a .target ≤ u) × Brings u (a′ ∷ rest) told
+
+-- What advances from the list s on told is as what one advance to `u` told.
+pub record TellsAsOne (b n u : ℕ) (s : Plain) (told : List Answer) (one : Answer) : Type 0 where
+  pub accepted : isRefused one ≡ false
+  pub done : reportOf one .done ≡ true
+  pub clock : reportOf one .clock ≡ u
+  pub fired : joined (reports told) ≡ reportOf one .fired
+  pub moves : total (reports told) ≡ reportOf one .moves
+  pub formula : total (reports told) ≡ allMoves b n (s .clock) u (s .entries)
+  pub bound : total (reports told) ≤ (n - 1) * length (s .entries)
 
 -- What the advances and one advance to `u` with room `r` have in common.
 pub record AsOne (b n u r : ℕ) (asks : List Ask) (s : Plain) : Type 0 where
-  pub accepted : isRefused (result b n (Advance u r) s .answer) ≡ false
-  pub done : reportOf (result b n (Advance u r) s .answer) .done ≡ true
-  pub fired : joined (reports b n asks s) ≡ reportOf (result b n (Advance u r) s .answer) .fired
+  pub told : TellsAsOne b n u s (answers b n (map asked asks) s) (result b n (Advance u r) s .answer)
   -- The entries left, the free stack, the clock and the counter.
   pub left : after b n (map asked asks) s ≡ result b n (Advance u r) s .next
   pub later : (calls : List Call) → answers b n calls (after b n (map asked asks) s) ≡ answers b n calls (result b n (Advance u r) s .next)
-  pub moves : total (reports b n asks s) ≡ reportOf (result b n (Advance u r) s .answer) .moves
-  pub formula : total (reports b n asks s) ≡ allMoves b n (s .clock) u (s .entries)
-  pub bound : total (reports b n asks s) ≤ (n - 1) * length (s .entries)

@@ -7,21 +7,21 @@ use mathlib.Core.Path.{_≡_}
 use Rattle.cells.specs.Lists.{All}
 use Rattle.meaning.specs.Entries.{Entry}
 use Rattle.meaning.specs.Plain.{Plain, Change, stays, files, refiles, frees, hands}
-use Rattle.meaning.specs.Calls.{Call, Advance, Shown, shown, reportOf, outcome, result}
+use Rattle.meaning.specs.Calls.{Call, Answer, Shown, shown, reportOf, outcome, result}
 use Rattle.meaning.specs.Becomes.{sameHandle}
 
--- What every accepted advance keeps to.
-pub record Fires (b n t r : ℕ) (s : Plain) : Type 0 where
+-- What every accepted advance to t keeps to, that finds the list s, answers a and leaves s′.
+pub record Fires (t : ℕ) (s : Plain) (a : Answer) (s′ : Plain) : Type 0 where
   -- "Nothing fires early": no record has a deadline above the clock that the answer gives, and that is at most the target.
-  pub early : All (λ (x : Shown). x .key ≤ reportOf (result b n (Advance t r) s .answer) .clock) (reportOf (result b n (Advance t r) s .answer) .fired)
-  pub upTo : reportOf (result b n (Advance t r) s .answer) .clock ≤ t
+  pub early : All (λ (x : Shown). x .key ≤ reportOf a .clock) (reportOf a .fired)
+  pub upTo : reportOf a .clock ≤ t
   -- The clock of the answer is the list's, and never falls.
-  pub clock : result b n (Advance t r) s .next .clock ≡ reportOf (result b n (Advance t r) s .answer) .clock
-  pub forward : s .clock ≤ result b n (Advance t r) s .next .clock
+  pub clock : s′ .clock ≡ reportOf a .clock
+  pub forward : s .clock ≤ s′ .clock
   -- The records and the entries left are the entries that stood, in their order.
-  pub whole : reportOf (result b n (Advance t r) s .answer) .fired ++ map shown (result b n (Advance t r) s .next .entries) ≡ map shown (s .entries)
+  pub whole : reportOf a .fired ++ map shown (s′ .entries) ≡ map shown (s .entries)
   -- "or never once the clock is brought past it": after *done* all that is left is due later than the target.
-  pub cleared : reportOf (result b n (Advance t r) s .answer) .done ≡ true → All (λ (e : Entry). t < e .key) (result b n (Advance t r) s .next .entries)
+  pub cleared : reportOf a .done ≡ true → All (λ (e : Entry). t < e .key) (s′ .entries)
 
 -- The change gives the handle's entry another deadline.
 unfoldable pub moves : ℕ → ℕ → Change → Bool

@@ -6,3 +6,6 @@ pub mod Handles
 pub mod Tickets
 pub mod Fires
 pub mod Bounds
+pub mod Made
+pub mod QueueRuns
+pub mod WheelRuns

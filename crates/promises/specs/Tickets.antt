@@ -5,7 +5,8 @@ use mathlib.Core.List.{List, [], _∷_, _++_, map}
 use lib.ListN.{take}
 use Rattle.meaning.specs.Entries.{Entry}
 use Rattle.meaning.specs.Plain.{Plain, Change, stays, files, refiles, frees, hands}
-use Rattle.meaning.specs.Calls.{Call, outcome, result}
+use Rattle.meaning.specs.Calls.{Call, Answer, Shown, outcome, result}
+use Rattle.promises.specs.Demand3.{reports, joined}
 
 -- The order number that a change takes, "the counter's value".
 unfoldable pub takesOrder : Change → Plain → List ℕ
@@ -35,3 +36,7 @@ endsTickets (hands m t) s = map (λ (e : Entry). e .ticket) (take m (s .entries)
 unfoldable pub over : (Change → Plain → List ℕ) → ℕ → ℕ → List Call → Plain → List ℕ
 over f b n [] s = []
 over f b n (call ∷ calls) s = f (outcome b n call s .change) s ++ over f b n calls (result b n call s .next)
+
+-- The tickets of all records that answers told fired.
+unfoldable pub firedTickets : List Answer → List ℕ
+firedTickets told = map (λ (x : Shown). x .ticket) (joined (reports told))
