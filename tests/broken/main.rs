@@ -3,6 +3,7 @@
 
 mod damage;
 mod doors;
+mod made;
 mod rules;
 mod states;
 
@@ -22,6 +23,10 @@ struct Count {
     differences: Vec<String>,
 }
 
+// How many states of each engine are made at random.
+const MADE: u64 = 1500;
+
+// The output before a call: two records' room.
 const OUT: [u64; 8] = [11, 12, 13, 14, 15, 16, 17, 18];
 
 impl Count {
@@ -117,6 +122,33 @@ impl Count {
         }
     }
 
+    // A state made at random: it must pass, and then up to three of its words are changed at once, again and again.
+    fn damage_made<E: Engine>(&mut self, made: E, dice: &mut made::Dice) {
+        self.states += 1;
+        let calls = made.calls();
+        let mut scratch = made.clone();
+        if made.passes().is_err() {
+            self.differs(format!("a made state breaks a rule: {:?}", made.passes()));
+        }
+        self.try_one(&made, &calls, &mut scratch, &|| "a made state".to_string());
+        for turn in 0..40 {
+            let mut e = made.clone();
+            let mut told = String::from("a made state");
+            for _ in 0..=turn % 3 {
+                let size = if dice.below(4) == 0 { e.head_size() } else { e.words().len() };
+                let from = if size == e.head_size() { 0 } else { e.head_size() };
+                let i = from + dice.below(size as u64) as usize;
+                let x = dice.one_of(&damage::values(&made, i));
+                if e.set(i, x) {
+                    told += &format!(", {} to {x}", e.name(i));
+                }
+            }
+            if e != made {
+                self.try_one(&e, &calls, &mut scratch, &|| told.clone());
+            }
+        }
+    }
+
     // A refusal of set-up: by its number, and nothing is changed.
     fn refuses_set_up<E: Engine>(&mut self, e: E, arg: u64, number: u64) {
         let mut after = e.clone();
@@ -180,6 +212,13 @@ fn main() {
     }
     count.damage_some(&states::large_wheel(), 12);
     count.damage_some(&states::large_queue(), 5);
+    let mut dice = made::Dice(88_172_645_463_325_252);
+    for _ in 0..MADE {
+        let wheel = made::wheel(&mut dice);
+        count.damage_made(wheel, &mut dice);
+        let queue = made::queue(&mut dice);
+        count.damage_made(queue, &mut dice);
+    }
     for rule in rules::names() {
         let times = count.rules.get(rule).copied().unwrap_or(0);
         println!("{times:8}  {rule}");
