@@ -35,13 +35,13 @@ struct Made {
     counter: u64,
 }
 
-fn memory(dice: &mut Dice) -> Made {
-    let n = 1 + dice.below(9);
+// Memory of n cells, of which so many are free.
+fn memory(dice: &mut Dice, n: u64, free_cells: u64) -> Made {
     let rest = dice.below(8);
     let mut words = vec![0; (8 * n + rest) as usize];
     let mut cells: Vec<u64> = (0..n).collect();
     dice.shuffle(&mut cells);
-    let used = cells.split_off(dice.below(n + 1) as usize);
+    let used = cells.split_off(free_cells as usize);
     let mut free = NO_CELL;
     for c in cells {
         words[8 * c as usize + 4] = free;
@@ -90,8 +90,8 @@ fn any_order(dice: &mut Dice, words: &[u64], list: &mut [u64]) {
     }
 }
 
-pub fn wheel(dice: &mut Dice) -> Wheel {
-    let mut m = memory(dice);
+pub fn wheel(dice: &mut Dice, n: u64, free_cells: u64) -> Wheel {
+    let mut m = memory(dice, n, free_cells);
     let far = dice.one_of(&[2, 70, 5000, 300_000, LAST_TICK]);
     let random = dice.next();
     let clock = dice.one_of(&[0, 1, 63, 64, 4095, LAST_TICK, LAST_TICK - 65, random % LAST_TICK]);
@@ -120,8 +120,8 @@ pub fn wheel(dice: &mut Dice) -> Wheel {
 }
 
 // Entries from the first on take any position whose parent is filled.
-pub fn queue(dice: &mut Dice) -> Queue {
-    let mut m = memory(dice);
+pub fn queue(dice: &mut Dice, n: u64, free_cells: u64) -> Queue {
+    let mut m = memory(dice, n, free_cells);
     let arity = 2 + dice.below(7);
     let far = dice.one_of(&[1, 3, 100, u64::MAX]);
     for &c in &m.used {

@@ -123,7 +123,7 @@ impl Count {
     }
 
     // A state made at random: it must pass, and then up to three of its words are changed at once, again and again.
-    fn damage_made<E: Engine>(&mut self, made: E, dice: &mut made::Dice) {
+    fn damage_made<E: Engine>(&mut self, made: E, turns: u64, dice: &mut made::Dice) {
         self.states += 1;
         let calls = made.calls();
         let mut scratch = made.clone();
@@ -131,7 +131,7 @@ impl Count {
             self.differs(format!("a made state breaks a rule: {:?}", made.passes()));
         }
         self.try_one(&made, &calls, &mut scratch, &|| "a made state".to_string());
-        for turn in 0..40 {
+        for turn in 0..turns {
             let mut e = made.clone();
             let mut told = String::from("a made state");
             for _ in 0..=turn % 3 {
@@ -200,6 +200,20 @@ fn other_slices(count: &mut Count) {
     }
 }
 
+// Small states made at random, then the largest memory, all of it in use and all but one cell.
+fn made_states(count: &mut Count) {
+    let mut dice = made::Dice(88_172_645_463_325_252);
+    for turn in 0..MADE + 2 {
+        let n = if turn < MADE { 1 + dice.below(9) } else { 4096 };
+        let free = if turn < MADE { dice.below(n + 1) } else { turn - MADE };
+        let turns = if turn < MADE { 40 } else { 6 };
+        let wheel = made::wheel(&mut dice, n, free);
+        count.damage_made(wheel, turns, &mut dice);
+        let queue = made::queue(&mut dice, n, free);
+        count.damage_made(queue, turns, &mut dice);
+    }
+}
+
 fn main() {
     let mut count = Count::default();
     set_ups(&mut count);
@@ -212,13 +226,7 @@ fn main() {
     }
     count.damage_some(&states::large_wheel(), 12);
     count.damage_some(&states::large_queue(), 5);
-    let mut dice = made::Dice(88_172_645_463_325_252);
-    for _ in 0..MADE {
-        let wheel = made::wheel(&mut dice);
-        count.damage_made(wheel, &mut dice);
-        let queue = made::queue(&mut dice);
-        count.damage_made(queue, &mut dice);
-    }
+    made_states(&mut count);
     for rule in rules::names() {
         let times = count.rules.get(rule).copied().unwrap_or(0);
         println!("{times:8}  {rule}");

@@ -2,6 +2,6 @@
 // of the audits link them. A harness, so that its contracts are modest: what it is proved to do is to end, and to stay within the lent slices.
 // What the calls do is promised where they stand.
 
-pub mod lent;
+mod lent;
 pub mod queue_door;
 pub mod wheel_door;
