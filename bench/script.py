@@ -1,0 +1,80 @@
+#!/usr/bin/env python3
+"""Prints a script of so many lines for a wheel of 512 cells: arms, moves, cancels and advances by handles that are good, with a fixed seed.
+
+The handles are known since the free stack and the order of firing are document 01's; a wrong guess would show as a refusal, and bench/run counts these.
+"""
+import heapq
+import random
+import sys
+
+CELLS, ROOM = 512, 64
+
+
+class Wheel:
+    """What the script's handles follow from: the free stack, and who stands where with which deadline and order number."""
+
+    def __init__(self):
+        self.clock, self.counter = 0, 1
+        self.free = list(range(CELLS - 1, -1, -1))
+        self.live, self.cells, self.heap = {}, [], []
+
+    def file(self, cell, ticket, deadline):
+        self.live[cell] = (deadline, self.counter, ticket)
+        heapq.heappush(self.heap, (deadline, self.counter, cell, ticket))
+        self.counter += 1
+
+    def arm(self, deadline):
+        cell = self.free.pop()
+        self.cells.append(cell)
+        self.file(cell, self.counter, deadline)
+
+    def give_back(self, cell):
+        del self.live[cell]
+        self.cells.remove(cell)
+        self.free.append(cell)
+
+    def due(self, target):
+        """The first entry with a deadline at most the target, if there is one; filings that no longer hold are dropped."""
+        while self.heap:
+            deadline, order, cell, ticket = self.heap[0]
+            if self.live.get(cell) == (deadline, order, ticket):
+                return self.heap[0] if deadline <= target else None
+            heapq.heappop(self.heap)
+        return None
+
+    def advance(self, target):
+        fired = 0
+        while fired < ROOM and self.due(target):
+            self.give_back(heapq.heappop(self.heap)[2])
+            fired += 1
+        late = self.due(target)
+        self.clock = late[0] if late else target
+
+
+def line(dice, wheel):
+    kind = dice.random()
+    deadline = wheel.clock + dice.randint(1, 100_000)
+    if kind < 0.35 and wheel.free:
+        wheel.arm(deadline)
+        return f"A {deadline} {dice.getrandbits(32)}"
+    if kind < 0.75 and wheel.cells:
+        cell = dice.choice(wheel.cells)
+        ticket = wheel.live[cell][2]
+        if kind < 0.6:
+            wheel.file(cell, ticket, deadline)
+            return f"M {cell} {ticket} {deadline}"
+        wheel.give_back(cell)
+        return f"C {cell} {ticket}"
+    target = wheel.clock + dice.randint(1, 400)
+    wheel.advance(target)
+    return f"G {target} {ROOM}"
+
+
+def main():
+    dice, wheel = random.Random(1), Wheel()
+    print(f"wheel {CELLS} 0")
+    for _ in range(int(sys.argv[1]) - 1):
+        print(line(dice, wheel))
+
+
+main()
