@@ -26,8 +26,9 @@ use std::time::{Instant, SystemTime, UNIX_EPOCH};
 
 const USAGE: &str = "usage:
   second answer wheel|queue                      answers the script on standard input
-  second random --wheel PATH --queue PATH --seed S --scripts K [--lines L] [--only I] [--counts]
+  second random --wheel PATH --queue PATH --seed S --scripts K [--lines L] [--counts]
                                                  compares K random scripts, and more until L lines
+    with --only I only script number I, with --engine wheel|queue only the scripts of that engine
   second show --seed S --only I                  prints random script number I
   second endless --wheel PATH --queue PATH       compares random scripts of a fresh seed for ever
   second runs --wheel PATH --queue PATH DIR      checks the stored runs of a folder";
@@ -35,6 +36,14 @@ const USAGE: &str = "usage:
 fn usage() -> ! {
     eprintln!("{USAGE}");
     exit(2)
+}
+
+fn engine_named(name: &str) -> Engine {
+    match name {
+        "wheel" => Engine::Wheel,
+        "queue" => Engine::Queue,
+        _ => usage(),
+    }
 }
 
 /// The words after the command.
@@ -46,6 +55,7 @@ struct Options {
     scripts: Option<u64>,
     lines: Option<u64>,
     only: Option<u64>,
+    engine: Option<Engine>,
     counts: bool,
     rest: Vec<String>,
 }
@@ -62,6 +72,7 @@ fn options(mut words: impl Iterator<Item = String>) -> Options {
             "--scripts" => options.scripts = number(value()),
             "--lines" => options.lines = number(value()),
             "--only" => options.only = number(value()),
+            "--engine" => options.engine = Some(engine_named(&value())),
             "--counts" => options.counts = true,
             _ if word.starts_with('-') => usage(),
             _ => options.rest.push(word),
@@ -111,9 +122,14 @@ fn compare_random(options: &Options) {
     let Some(least_scripts) = options.scripts else { usage() };
     let least_lines = options.lines.unwrap_or(0);
     let (mut scripts, mut lines) = (0, 0);
-    while scripts < least_scripts || lines < least_lines {
-        lines += compare_one(&programs, seed, scripts, scripts, &mut counts);
-        scripts += 1;
+    for number in 0.. {
+        if scripts >= least_scripts && lines >= least_lines {
+            break;
+        }
+        if options.engine.map_or(true, |engine| engine == random::engine_of(number)) {
+            lines += compare_one(&programs, seed, number, scripts, &mut counts);
+            scripts += 1;
+        }
     }
     if options.counts {
         for (kind, count) in &counts {
@@ -143,11 +159,7 @@ fn compare_endless(options: &Options) {
 }
 
 fn answer(options: &Options) {
-    let engine = match options.rest.first().map(String::as_str) {
-        Some("wheel") => Engine::Wheel,
-        Some("queue") => Engine::Queue,
-        _ => usage(),
-    };
+    let engine = engine_named(options.rest.first().map_or("", String::as_str));
     let mut input = Vec::new();
     std::io::stdin().read_to_end(&mut input).expect("standard input cannot be read");
     let output = script::answers(engine, &input);

@@ -84,8 +84,25 @@ impl Queue {
         self.heap.iter().position(|e| e.ticket == entry.ticket).expect("the heap misses an entry")
     }
 
-    /// The heap must agree with the list after every call, else this program is wrong in itself.
-    fn agree(&self) {
+    /// The levels of a heap of `count` entries.
+    fn levels(&self, count: usize) -> u64 {
+        let (mut position, mut levels) = (count, 0);
+        while position > 0 {
+            levels += 1;
+            position = if position == 1 { 0 } else { self.parent(position - 1) + 1 };
+        }
+        levels
+    }
+
+    /// The moves since the heap was `old`. Heap and list must agree after every call, and the moves
+    /// keep their bound, else this program is wrong in itself.
+    fn moves_since(&self, old: &[Entry]) -> u64 {
+        let moves = count_moves(old, &self.heap);
+        self.check(moves, old.len().max(self.heap.len()));
+        moves
+    }
+
+    fn check(&self, moves: u64, most: usize) {
         let first = self.plain.first().map(|index| self.plain.entries[index]);
         assert_eq!(self.heap.first().copied(), first, "heap root and plain list differ");
         assert_eq!(
@@ -93,6 +110,7 @@ impl Queue {
             self.plain.entries.len(),
             "heap and plain list differ in length"
         );
+        assert!(moves <= self.levels(most), "more moves than levels");
     }
 
     pub fn put(&mut self, key: u64, load: u64) -> Result<(Entry, u64), Refusal> {
@@ -100,8 +118,7 @@ impl Queue {
         let old = self.heap.clone();
         self.heap.push(entry);
         self.rise(self.heap.len() - 1);
-        self.agree();
-        Ok((entry, count_moves(&old, &self.heap)))
+        Ok((entry, self.moves_since(&old)))
     }
 
     pub fn first(&self) -> Result<Entry, Refusal> {
@@ -121,8 +138,7 @@ impl Queue {
         let position = self.position_of(&entry);
         self.heap[position] = entry;
         self.settle(position);
-        self.agree();
-        Ok(count_moves(&old, &self.heap))
+        Ok(self.moves_since(&old))
     }
 
     pub fn remove(&mut self, cell: u64, ticket: u64) -> Result<(Entry, u64), Refusal> {
@@ -140,7 +156,6 @@ impl Queue {
             self.heap[hole] = last;
             self.settle(hole);
         }
-        self.agree();
-        (entry, count_moves(&old, &self.heap))
+        (entry, self.moves_since(&old))
     }
 }

@@ -110,9 +110,18 @@ fn length(dice: &mut Dice) -> u64 {
     }
 }
 
-/// Script number `number` of a seed; even numbers are for the wheel, odd ones for the queue.
+/// Even numbers are for the wheel, odd ones for the queue.
+pub fn engine_of(number: u64) -> Engine {
+    if number % 2 == 0 {
+        Engine::Wheel
+    } else {
+        Engine::Queue
+    }
+}
+
+/// Script number `number` of a seed.
 pub fn script(seed: u64, number: u64, counts: &mut Counts) -> Script {
-    let engine = if number % 2 == 0 { Engine::Wheel } else { Engine::Queue };
+    let engine = engine_of(number);
     let mut dice = Dice::of_script(seed, number);
     let length = length(&mut dice);
     let nearly_empty = dice.below(120);

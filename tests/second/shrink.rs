@@ -110,8 +110,11 @@ impl Shrinker<'_> {
         self.try_lines(lines)
     }
 
-    /// Takes a piece out of a long line.
+    /// Takes pieces out of a long line; a line with a linked handle is never long and keeps its words.
     fn shorten(&mut self, index: usize) {
+        if self.lines[index].handle_of.is_some() {
+            return;
+        }
         let mut piece = self.lines[index].bytes.len() / 2;
         while piece >= 8 {
             let bytes = &self.lines[index].bytes;

@@ -33,7 +33,23 @@ fn highest_difference(a: u64, b: u64) -> Option<u32> {
 pub fn moves_of(deadline: u64, from: u64, to: u64) -> u64 {
     let Some(level) = highest_difference(from, deadline) else { return 0 };
     let lowest = if deadline > to { highest_difference(to, deadline).unwrap() } else { 0 };
-    (lowest..level).filter(|p| digit(deadline, *p) != 0).count() as u64
+    let moves = (lowest..level).filter(|p| digit(deadline, *p) != 0).count() as u64;
+    assert_eq!(moves, walked_moves(deadline, from, to), "formula and walk differ");
+    moves
+}
+
+/// The same count by the document's other account: the wake ticks that the entry meets on its way.
+fn walked_moves(deadline: u64, from: u64, to: u64) -> u64 {
+    let (mut clock, mut moves) = (from, 0);
+    while let Some(level) = highest_difference(clock, deadline) {
+        let wake_tick = deadline >> (6 * level) << (6 * level);
+        if wake_tick > to {
+            break;
+        }
+        clock = wake_tick;
+        moves += u64::from(clock != deadline);
+    }
+    moves
 }
 
 impl Wheel {
