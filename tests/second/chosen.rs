@@ -16,6 +16,23 @@ pub fn cells(dice: &mut Dice, many_lines: bool) -> u64 {
     }
 }
 
+/// For how many lines a script goes on to fill or to empty its engine before it turns.
+pub fn patience(dice: &mut Dice, many_lines: bool) -> u64 {
+    if many_lines {
+        dice.pick(&[30, 300, 2000])
+    } else {
+        dice.pick(&[10, 30, 100])
+    }
+}
+
+/// Whether the script fills from here on: it turns when full or empty, but stays there a little for
+/// the refusals, and turns now and then between.
+pub fn filling(dice: &mut Dice, plain: &Plain, filling: bool, patience: u64) -> bool {
+    let at_end = if filling { plain.free.is_empty() } else { plain.entries.is_empty() };
+    let turns = dice.once_in(if at_end { 6 } else { patience });
+    filling != turns
+}
+
 /// A handle and the word for its kind: mostly of an entry, else one of each way to name nothing.
 pub fn handle(dice: &mut Dice, plain: &Plain, answered: &[(u64, u64)]) -> (&'static str, u64, u64) {
     if plain.entries.is_empty() || dice.once_in(5) {

@@ -26,7 +26,7 @@ impl Programs {
     }
 }
 
-/// The output of a built program, with a last remark of our own if it did not end as programs do.
+/// The output of a built program, with a last remark of our own if it did not end well.
 pub fn output_of(program: &Path, input: &[u8]) -> Vec<u8> {
     let mut child = Command::new(program)
         .stdin(Stdio::piped())
@@ -55,8 +55,8 @@ pub fn output_of(program: &Path, input: &[u8]) -> Vec<u8> {
         Ok(mut output) => {
             let status = child.wait().expect("the program cannot be waited for");
             let _ = writer.join();
-            if status.code().is_none() {
-                output.extend(format!("[ended by {status}]\n").bytes());
+            if !status.success() {
+                output.extend(format!("[ended with {status}]\n").bytes());
             }
             output
         }

@@ -12,7 +12,9 @@ pub struct Taste {
     keys: [u64; 6],
     /// Runs of rising or falling keys make long ways through the heap.
     run: u64,
+    /// While it fills, puts are common.
     filling: bool,
+    patience: u64,
 }
 
 /// The first line, and the taste of the script.
@@ -22,9 +24,10 @@ pub fn set_up(dice: &mut Dice, many_lines: bool) -> (String, Taste) {
     let bound = dice.pick(&[1, 2, 3, 10, 100, 10_000, u64::MAX]);
     let keys = [0; 6].map(|_| dice.pick(&[0, 1, 1, 3, 8]) + 1);
     let run = dice.wide();
+    let patience = chosen::patience(dice, many_lines);
     (
         format!("queue {} {}", written(dice, cells), written(dice, arity)),
-        Taste { bound, keys, run, filling: true },
+        Taste { bound, keys, run, filling: true, patience },
     )
 }
 
@@ -57,11 +60,7 @@ pub fn line(
     answered: &[(u64, u64)],
 ) -> (String, String) {
     let plain = &queue.plain;
-    if plain.free.is_empty() && dice.once_in(8) {
-        taste.filling = false;
-    } else if plain.entries.is_empty() && dice.once_in(3) {
-        taste.filling = true;
-    }
+    taste.filling = chosen::filling(dice, plain, taste.filling, taste.patience);
     let weights = if taste.filling { [14, 1, 2, 5, 2] } else { [4, 2, 7, 5, 4] };
     let (kind, numbers) = match dice.weighed(&weights) {
         0 => ("P".to_string(), vec![key(dice, queue, taste), dice.wide()]),

@@ -14,6 +14,7 @@ pub struct Taste {
     deadlines: [u64; 7],
     /// While it fills, arms are common and the clock stays nearly still.
     filling: bool,
+    patience: u64,
     most_room: u64,
     /// Wrong numbers are given once in this many.
     wrong_once_in: u64,
@@ -34,9 +35,10 @@ pub fn set_up(dice: &mut Dice, many_lines: bool) -> (String, Taste) {
     let reach = dice.between(1, 6);
     let pool = [0; 3].map(|_| (start + 1 + dice.below(64u64.pow(reach as u32))).min(LAST_TICK));
     let deadlines = [0; 7].map(|_| dice.pick(&[0, 1, 1, 3, 8]) + 1);
+    let patience = chosen::patience(dice, many_lines);
     let most_room = dice.pick(&[1, 2, 5, 64, 64]);
     let wrong_once_in = dice.pick(&[5, 15, 40]);
-    let taste = Taste { pool, reach, deadlines, filling: true, most_room, wrong_once_in };
+    let taste = Taste { pool, reach, deadlines, filling: true, patience, most_room, wrong_once_in };
     (format!("wheel {} {}", written(dice, cells), written(dice, start)), taste)
 }
 
@@ -129,11 +131,7 @@ pub fn line(
     answered: &[(u64, u64)],
 ) -> (String, String) {
     let plain = &wheel.plain;
-    if plain.free.is_empty() && dice.once_in(8) {
-        taste.filling = false;
-    } else if plain.entries.is_empty() && dice.once_in(3) {
-        taste.filling = true;
-    }
+    taste.filling = chosen::filling(dice, plain, taste.filling, taste.patience);
     let weights = if taste.filling { [12, 2, 3, 2] } else { [4, 3, 4, 9] };
     let (kind, numbers) = match dice.weighed(&weights) {
         0 => ("A".to_string(), vec![deadline(dice, wheel, taste), dice.wide()]),

@@ -1,7 +1,7 @@
 //! Makes a script shorter while the outputs still differ.
 
 use crate::compare::{difference, Programs};
-use crate::lines::{number, read, Line};
+use crate::lines::number;
 use crate::random::Script;
 use crate::script::{answers, Run};
 use std::collections::HashMap;
@@ -28,10 +28,15 @@ fn handle_in(answer: &str) -> Option<(u64, u64)> {
     }
 }
 
+fn words_of(line: &[u8]) -> Vec<Vec<u8>> {
+    line.split(|byte| *byte == b' ').map(<[u8]>::to_vec).collect()
+}
+
+/// The handle that a line carries, read here by its words, so that a line can be written anew by them.
 fn handle_of(line: &[u8]) -> Option<(u64, u64)> {
-    match read(line)? {
-        Line::Cancel { cell, ticket } | Line::Remove { cell, ticket } => Some((cell, ticket)),
-        Line::Move { cell, ticket, .. } | Line::Rekey { cell, ticket, .. } => Some((cell, ticket)),
+    let words: Vec<&[u8]> = line.split(|byte| *byte == b' ').collect();
+    match words[..] {
+        [b"C" | b"M" | b"K" | b"R", cell, ticket, ..] => Some((number(cell)?, number(ticket)?)),
         _ => None,
     }
 }
@@ -53,11 +58,10 @@ impl Shrinker<'_> {
         for line in lines {
             let mut bytes = line.bytes.clone();
             if let Some((cell, ticket)) = line.handle_of.and_then(|source| handles.get(&source)) {
-                let text = String::from_utf8_lossy(&bytes).into_owned();
-                let mut words: Vec<String> = text.split(' ').map(String::from).collect();
-                words[1] = cell.to_string();
-                words[2] = ticket.to_string();
-                bytes = words.join(" ").into_bytes();
+                let mut words = words_of(&bytes);
+                words[1] = cell.to_string().into_bytes();
+                words[2] = ticket.to_string().into_bytes();
+                bytes = words.join(&b' ');
             }
             if let Some(handle) = handle_in(&run.answer(&bytes)) {
                 handles.insert(line.number, handle);
@@ -118,8 +122,9 @@ impl Shrinker<'_> {
         let mut piece = self.lines[index].bytes.len() / 2;
         while piece >= 8 {
             let bytes = &self.lines[index].bytes;
-            let start = (bytes.len() - piece) / 2;
-            let shorter = [&bytes[..start], &bytes[start + piece..]].concat();
+            let start = bytes.len().saturating_sub(piece) / 2;
+            let end = (start + piece).min(bytes.len());
+            let shorter = [&bytes[..start], &bytes[end..]].concat();
             if !self.try_line(index, shorter) || self.lines[index].bytes.len() < piece {
                 piece /= 2;
             }
@@ -128,13 +133,11 @@ impl Shrinker<'_> {
 
     /// Tries smaller numbers at each place of a line; handles stay as they are linked.
     fn lower_numbers(&mut self, index: usize) {
-        let Ok(text) = String::from_utf8(self.lines[index].bytes.clone()) else { return };
         let skip = if self.lines[index].handle_of.is_some() { 3 } else { 1 };
-        for place in skip..text.split(' ').count() {
+        for place in skip..words_of(&self.lines[index].bytes).len() {
             // From zero up, so that the smallest that still shows the difference stays.
             for divisor in [u64::MAX, 1 << 32, 1 << 16, 1 << 8, 16, 4, 2, 1] {
-                let mut words: Vec<Vec<u8>> =
-                    self.lines[index].bytes.split(|b| *b == b' ').map(<[u8]>::to_vec).collect();
+                let mut words = words_of(&self.lines[index].bytes);
                 let Some(value) = words.get(place).and_then(|word| number(word)) else { break };
                 let lower = (value / divisor).to_string().into_bytes();
                 if lower == words[place] {
