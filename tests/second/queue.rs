@@ -86,10 +86,13 @@ impl Queue {
 
     /// The levels of a heap of `count` entries.
     fn levels(&self, count: usize) -> u64 {
-        let (mut position, mut levels) = (count, 0);
+        if count == 0 {
+            return 0;
+        }
+        let (mut position, mut levels) = (count - 1, 1);
         while position > 0 {
+            position = self.parent(position);
             levels += 1;
-            position = if position == 1 { 0 } else { self.parent(position - 1) + 1 };
         }
         levels
     }

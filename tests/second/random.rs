@@ -52,6 +52,11 @@ struct Maker<'a> {
 }
 
 impl Maker<'_> {
+    fn count(&mut self, what: String, by: u64) {
+        *self.counts.entry(format!("{} {what}", self.engine.name())).or_default() += by;
+    }
+
+    /// Adds a line and counts its kind with the kind of its answer.
     fn say(&mut self, kind: &str, line: Vec<u8>) {
         let answer = self.run.answer(&line);
         let words: Vec<&str> = answer.lines().last().unwrap_or("").split(' ').collect();
@@ -62,24 +67,17 @@ impl Maker<'_> {
             ["refused", number] => format!("refused {number}"),
             ["bad", "line"] => "bad line".to_string(),
             ["clock", .., end] => {
-                *self.counts.entry("wheel fired records".to_string()).or_default() +=
-                    answer.lines().count() as u64 - 1;
+                self.count("fired records".to_string(), answer.lines().count() as u64 - 1);
                 end.to_string()
             }
             [""] => "nothing, the run has ended".to_string(),
             _ => words[0].to_string(),
         };
-        *self
-            .counts
-            .entry(format!("{} {kind} -> {answer_kind}", self.engine.name()))
-            .or_default() += 1;
+        self.count(format!("{kind} -> {answer_kind}"), 1);
         if let Some(at) = words.iter().position(|word| *word == "moves") {
             let moves = words[at + 1].parse::<u64>().unwrap().min(10);
             let most = if moves == 10 { " or more" } else { "" };
-            *self
-                .counts
-                .entry(format!("{} {} with {moves:2}{most} moves", self.engine.name(), words[0]))
-                .or_default() += 1;
+            self.count(format!("{} with {moves:2}{most} moves", words[0]), 1);
         }
         self.lines.push(line);
     }
@@ -175,7 +173,7 @@ pub fn script(seed: u64, number: u64, counts: &mut Counts) -> Script {
     }
     let last_feed = !maker.dice.once_in(4);
     if !last_feed {
-        *maker.counts.entry(format!("{} no last line feed", engine.name())).or_default() += 1;
+        maker.count("no last line feed".to_string(), 1);
     }
     Script { engine, lines: maker.lines, last_feed }
 }
