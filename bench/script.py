@@ -1,11 +1,18 @@
 #!/usr/bin/env python3
-"""Prints a script of so many lines for a wheel of 512 cells: arms, moves, cancels and advances by handles that are good, with a fixed seed.
+"""The script programs' benchmark.
 
-The handles are known since the free stack and the order of firing are document 01's; a wrong guess would show as a refusal, and bench/run counts these.
+`make N` prints a script of N lines for a wheel of 512 cells: arms, moves, cancels and advances by handles that are good, with a fixed seed. The handles
+are known since the free stack and the order of firing are document 01's; `time` says so if one is refused.
+`time SCRIPT WHEEL READER` runs the wheel's program and the plain reader on it in turns, and prints the smallest times of each.
 """
 import heapq
+import os
 import random
+import subprocess
 import sys
+import time
+
+TURNS = 9
 
 CELLS, ROOM = 512, 64
 
@@ -70,11 +77,47 @@ def line(dice, wheel):
     return f"G {target} {ROOM}"
 
 
-def main():
+def make(lines):
     dice, wheel = random.Random(1), Wheel()
     print(f"wheel {CELLS} 0")
-    for _ in range(int(sys.argv[1]) - 1):
+    for _ in range(lines - 1):
         print(line(dice, wheel))
+
+
+def run(program, script):
+    """Seconds on the clock and of the processor for one run."""
+    before, start = os.times(), time.perf_counter()
+    with open(script, "rb") as lines:
+        subprocess.run([program], stdin=lines, stdout=subprocess.DEVNULL, check=True)
+    after, end = os.times(), time.perf_counter()
+    return end - start, after.children_user + after.children_system - before.children_user - before.children_system
+
+
+def measure(script, wheel, reader):
+    with open(script, "rb") as lines:
+        count = sum(1 for _ in lines)
+    with open(script, "rb") as lines:
+        answers = subprocess.run([wheel], stdin=lines, stdout=subprocess.PIPE, check=True).stdout
+    if b"refused" in answers or b"bad line" in answers:
+        sys.exit("a line of the script was refused: the handles are not as foreseen")
+    best = {}
+    for _ in range(TURNS):
+        for program in (wheel, reader):
+            taken = run(program, script)
+            best[program] = tuple(map(min, taken, best.get(program, taken)))
+    for name, program in (("wheel_script", wheel), ("plain reader in C", reader)):
+        clock, processor = best[program]
+        print(f"{name}: {count} lines in {clock:.3f} s, {processor:.2f} s of the processor, {count / clock / 1e6:.1f} million lines a second")
+    print(f"ratio {best[wheel][0] / best[reader][0]:.2f}")
+
+
+def main():
+    if len(sys.argv) == 3 and sys.argv[1] == "make":
+        make(int(sys.argv[2]))
+    elif len(sys.argv) == 5 and sys.argv[1] == "time":
+        measure(*sys.argv[2:])
+    else:
+        sys.exit(__doc__)
 
 
 main()
