@@ -1,0 +1,3 @@
+-- Laws of the wheel's script.
+pub mod Firing
+pub mod Rooms

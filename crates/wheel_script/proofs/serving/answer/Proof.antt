@@ -1,0 +1,87 @@
+-- `wheel_script::serving::answer` meets its contract: the wheel keeps its words, and only the first line opens one. Assumes nothing.
+use native.Mathlib.Omega.{arith}
+use mathlib.Core.Path.{sym, ap}
+use lib.Seq.{length-take-le}
+use Rattle.wheel_script.specs.Sessions.{wordsOf}
+use borrow.Author.Needs.{needs}
+use Rattle.wheel_script.proofs.serving.answer.Statement.{statement}
+use Rattle.wheel_script.proofs.serving.answer.Tie as tie
+
+enum-told : tie.Need-enum-told
+enum-told c = search needs
+
+begin-requires : tie.Need-begin-requires
+begin-requires c κs = search needs
+
+enum-known-session : tie.Need-enum-known-session
+enum-known-session c = search needs
+
+slice-relend-prefix-obey : tie.Need-slice-relend-prefix-obey
+unfolding wordsOf
+slice-relend-prefix-obey c = omega (arith, ap wordsOf (c .before .before .session .given .1), c .before .before .before .before .before .before .before .before .before .before .pre)
+
+slice-aggregate-obey : tie.Need-slice-aggregate-obey
+slice-aggregate-obey c = sym (length-take-le _ _ (slice-relend-prefix-obey (c .before)))
+
+obey-requires : tie.Need-obey-requires
+obey-requires c κs = search needs
+
+enum-told-2 : tie.Need-enum-told-2
+enum-told-2 c = search needs
+
+over-requires : tie.Need-over-requires
+over-requires c κs = search needs
+
+same-length : tie.Need-same-length
+same-length c = search needs
+
+same-length-2 : tie.Need-same-length-2
+same-length-2 c = search needs
+
+returns : tie.Need-returns
+returns c = search needs
+
+same-length-3 : tie.Need-same-length-3
+same-length-3 c = search needs
+
+same-length-4 : tie.Need-same-length-4
+same-length-4 c = search needs
+
+same-length-5 : tie.Need-same-length-5
+same-length-5 c = search needs
+
+same-length-6 : tie.Need-same-length-6
+same-length-6 c = search needs
+
+same-length-7 : tie.Need-same-length-7
+same-length-7 c = search needs
+
+returns-2 : tie.Need-returns-2
+unfolding wordsOf
+returns-2 c = record { place = search needs; wheel = slice-relend-prefix-obey (c .before .before .before .before .before .before .before .before .before .before .before .before .before .before .before .before) }
+
+returns-3 : tie.Need-returns-3
+returns-3 c = search needs
+
+pub answer-spec : {M : Type 1} → statement M
+answer-spec =
+    tie.close
+    (tie.spec
+    enum-told
+    begin-requires
+    enum-known-session
+    slice-relend-prefix-obey
+    slice-aggregate-obey
+    obey-requires
+    enum-told-2
+    over-requires
+    same-length
+    same-length-2
+    returns
+    same-length-3
+    same-length-4
+    same-length-5
+    same-length-6
+    same-length-7
+    returns-2
+    returns-3)

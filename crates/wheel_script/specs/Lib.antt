@@ -1,0 +1,4 @@
+-- The wheel's script: its commands, its answer lines, and where a run stands.
+pub mod Commands
+pub mod Texts
+pub mod Sessions

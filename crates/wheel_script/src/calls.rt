@@ -1,0 +1,153 @@
+// Each command on the wheel: the call, and its answer as lines.
+// The calls are those in place: head and words come from the set-up and the calls before alone, so an audit would find nothing.
+
+use crate::answers;
+use crate::commands::Command;
+use crate::commands::read_command;
+use wheel::head::Dial;
+use wheel::in_place;
+ghost use Prim.Native.Nat.{_≤_};
+ghost use lib.ListN.{length};
+
+// What a command leaves: where its answer ends in the output, and the wheel's numbers.
+pub struct Said {
+    pub end: usize,
+    pub dial: Dial,
+}
+
+fn arm(
+    out: &mut [u8],
+    at: usize,
+    w: &mut [u64],
+    first: &mut [u16],
+    last: &mut [u16],
+    marks: &mut [u64],
+    d: Dial,
+    deadline: u64,
+    load: u64,
+) -> Said
+    ensures { λ r. ⌜ r .end ≤ length (now (out .entry)) ⌝ }
+{
+    let done = in_place::arm(w, first, last, marks, d, deadline, load);
+    let answer = done.answer;
+    let dial = done.dial;
+    let end = answers::arm(out, at, answer);
+    Said { end, dial }
+}
+
+fn cancel(
+    out: &mut [u8],
+    at: usize,
+    w: &mut [u64],
+    first: &mut [u16],
+    last: &mut [u16],
+    marks: &mut [u64],
+    d: Dial,
+    c: u64,
+    k: u64,
+) -> Said
+    ensures { λ r. ⌜ r .end ≤ length (now (out .entry)) ⌝ }
+{
+    let done = in_place::cancel(w, first, last, marks, d, c, k);
+    let answer = done.answer;
+    let dial = done.dial;
+    let end = answers::cancel(out, at, answer);
+    Said { end, dial }
+}
+
+fn move_to(
+    out: &mut [u8],
+    at: usize,
+    w: &mut [u64],
+    first: &mut [u16],
+    last: &mut [u16],
+    marks: &mut [u64],
+    d: Dial,
+    c: u64,
+    k: u64,
+    deadline: u64,
+) -> Said
+    ensures { λ r. ⌜ r .end ≤ length (now (out .entry)) ⌝ }
+{
+    let done = in_place::move_to(w, first, last, marks, d, c, k, deadline);
+    let answer = done.answer;
+    let dial = done.dial;
+    let end = answers::move_to(out, at, answer);
+    Said { end, dial }
+}
+
+// Advances with the records in these output words.
+fn advance_into(
+    out: &mut [u8],
+    at: usize,
+    w: &mut [u64],
+    first: &mut [u16],
+    last: &mut [u16],
+    marks: &mut [u64],
+    d: Dial,
+    target: u64,
+    records: &mut [u64],
+) -> Said
+    ensures { λ r. ⌜ r .end ≤ length (now (out .entry)) ⌝ }
+{
+    let done = in_place::advance(w, first, last, marks, d, target, records);
+    let answer = done.answer;
+    let dial = done.dial;
+    let end = answers::advance(out, at, answer, records);
+    Said { end, dial }
+}
+
+// Advances with room for at most 64 records.
+fn advance(
+    out: &mut [u8],
+    at: usize,
+    w: &mut [u64],
+    first: &mut [u16],
+    last: &mut [u16],
+    marks: &mut [u64],
+    d: Dial,
+    target: u64,
+    room: u64,
+) -> Said
+    requires { ⌜ room ≤ 64 ⌝ }
+    ensures { λ r. ⌜ r .end ≤ length (now (out .entry)) ⌝ }
+{
+    let mut records = [0u64; 256];
+    let words = room as usize * 4;
+    advance_into(
+        out,
+        at,
+        w,
+        first,
+        last,
+        marks,
+        d,
+        target,
+        &mut records[..words],
+    )
+}
+
+// Does what a line after the first says; one that sets a wheel up is bad here.
+pub fn obey(
+    out: &mut [u8],
+    at: usize,
+    w: &mut [u64],
+    first: &mut [u16],
+    last: &mut [u16],
+    marks: &mut [u64],
+    d: Dial,
+    line: &[u8],
+) -> Said
+    ensures { λ r. ⌜ r .end ≤ length (now (out .entry)) ⌝ }
+{
+    match read_command(line) {
+        Command::Arm(e, x) => arm(out, at, w, first, last, marks, d, e, x),
+        Command::Cancel(c, k) => cancel(out, at, w, first, last, marks, d, c, k),
+        Command::Move(c, k, e) => move_to(out, at, w, first, last, marks, d, c, k, e),
+        Command::Advance(t, room) => advance(out, at, w, first, last, marks, d, t, room),
+        _ => Said {
+            end: answers::bad_line(out, at),
+            dial: d,
+        },
+    }
+}
