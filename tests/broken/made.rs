@@ -1,0 +1,142 @@
+// States written word by word at random, so that they keep to the rules and no more: calls need not lead to them. In a list of the wheel entries of
+// different deadlines stand in any order, a heap is any that is ordered, cells and tickets are shuffled. The audit must pass every one of them.
+
+use crate::doors::{Queue, Wheel};
+use crate::rules::{place, DUE, LAST_TICK, NO_CELL};
+
+// A small generator of numbers, so that runs repeat.
+pub struct Dice(pub u64);
+
+impl Dice {
+    pub fn next(&mut self) -> u64 {
+        self.0 ^= self.0 << 13;
+        self.0 ^= self.0 >> 7;
+        self.0 ^= self.0 << 17;
+        self.0
+    }
+    pub fn below(&mut self, n: u64) -> u64 {
+        self.next() % n
+    }
+    pub fn one_of<T: Copy>(&mut self, from: &[T]) -> T {
+        from[self.below(from.len() as u64) as usize]
+    }
+    fn shuffle<T>(&mut self, xs: &mut [T]) {
+        for i in (1..xs.len()).rev() {
+            xs.swap(i, self.below(i as u64 + 1) as usize);
+        }
+    }
+}
+
+// Memory with a free stack and entries that have tickets, order numbers and loads: the words, the cells in use, the top of the stack, the counter.
+struct Made {
+    words: Vec<u64>,
+    used: Vec<u64>,
+    free: u64,
+    counter: u64,
+}
+
+fn memory(dice: &mut Dice) -> Made {
+    let n = 1 + dice.below(9);
+    let rest = dice.below(8);
+    let mut words = vec![0; (8 * n + rest) as usize];
+    let mut cells: Vec<u64> = (0..n).collect();
+    dice.shuffle(&mut cells);
+    let used = cells.split_off(dice.below(n + 1) as usize);
+    let mut free = NO_CELL;
+    for c in cells {
+        words[8 * c as usize + 4] = free;
+        free = c;
+    }
+    // Order numbers have gaps and need not rise with the tickets; none is below its ticket, and they differ.
+    let step = 1 + dice.below(3);
+    for (i, &c) in used.iter().enumerate() {
+        let at = 8 * c as usize;
+        words[at] = 1 + i as u64;
+        words[at + 1] = (1 + i as u64) * step + used.len() as u64 * dice.below(2) * step;
+        words[at + 3] = dice.next();
+    }
+    let mut seen = Vec::new();
+    for &c in &used {
+        let at = 8 * c as usize + 1;
+        while seen.contains(&words[at]) {
+            words[at] += 1;
+        }
+        seen.push(words[at]);
+    }
+    let counter = seen.iter().max().unwrap_or(&0) + 1 + dice.below(3);
+    (0..rest).for_each(|i| words[(8 * n + i) as usize] = dice.next());
+    Made { words, used, free, counter }
+}
+
+// Links the entries of a list, which stand in any order but for equal deadlines, and gives its ends.
+fn link(words: &mut [u64], list: &[u64]) -> (u64, u64) {
+    for (i, &c) in list.iter().enumerate() {
+        words[8 * c as usize + 4] = *list.get(i + 1).unwrap_or(&NO_CELL);
+        words[8 * c as usize + 5] = if i == 0 { NO_CELL } else { list[i - 1] };
+    }
+    (*list.first().unwrap_or(&NO_CELL), *list.last().unwrap_or(&NO_CELL))
+}
+
+// Shuffles a list, and then sorts each group of equal deadlines by order number where it stands.
+fn any_order(dice: &mut Dice, words: &[u64], list: &mut [u64]) {
+    dice.shuffle(list);
+    let word = |c: u64, f: usize| words[8 * c as usize + f];
+    for j in 0..list.len() {
+        for i in 0..j {
+            if word(list[i], 2) == word(list[j], 2) && word(list[i], 1) > word(list[j], 1) {
+                list.swap(i, j);
+            }
+        }
+    }
+}
+
+pub fn wheel(dice: &mut Dice) -> Wheel {
+    let mut m = memory(dice);
+    let far = dice.one_of(&[2, 70, 5000, 300_000, LAST_TICK]);
+    let random = dice.next();
+    let clock = dice.one_of(&[0, 1, 63, 64, 4095, LAST_TICK, LAST_TICK - 65, random % LAST_TICK]);
+    let mut lists = vec![Vec::new(); 385];
+    for &c in &m.used {
+        let deadline = LAST_TICK.min(clock + dice.below(far));
+        m.words[8 * c as usize + 2] = deadline;
+        lists[place(clock, deadline)].push(c);
+    }
+    let cells = m.words.len() as u64 / 8;
+    let mut v = Wheel { first: vec![4096; 384], last: vec![4096; 384], marks: vec![0; 6], numbers: Vec::new(), words: m.words };
+    let mut due = (NO_CELL, NO_CELL);
+    for (i, list) in lists.iter_mut().enumerate().filter(|(_, l)| !l.is_empty()) {
+        any_order(dice, &v.words, list);
+        let ends = link(&mut v.words, list);
+        if i == DUE {
+            due = ends;
+        } else {
+            v.first[i] = ends.0 as u16;
+            v.last[i] = ends.1 as u16;
+            v.marks[i / 64] |= 1 << (i % 64);
+        }
+    }
+    v.numbers = vec![clock, due.0, due.1, cells, m.free, m.counter];
+    v
+}
+
+// Entries from the first on take any position whose parent is filled.
+pub fn queue(dice: &mut Dice) -> Queue {
+    let mut m = memory(dice);
+    let arity = 2 + dice.below(7);
+    let far = dice.one_of(&[1, 3, 100, u64::MAX]);
+    for &c in &m.used {
+        m.words[8 * c as usize + 2] = dice.below(far);
+    }
+    let mut used = m.used.clone();
+    used.sort_by_key(|&c| (m.words[8 * c as usize + 2], m.words[8 * c as usize + 1]));
+    let mut filled = vec![false; used.len()];
+    for &c in &used {
+        let open: Vec<usize> = (0..used.len()).filter(|&p| !filled[p] && (p == 0 || filled[(p - 1) / arity as usize])).collect();
+        let p = dice.one_of(&open);
+        filled[p] = true;
+        m.words[8 * p + 6] = c;
+        m.words[8 * c as usize + 5] = p as u64;
+    }
+    let cells = m.words.len() as u64 / 8;
+    Queue { numbers: vec![arity, used.len() as u64, cells, m.free, m.counter], words: m.words }
+}
