@@ -2,3 +2,4 @@
 pub mod Commands
 pub mod Texts
 pub mod Sessions
+pub mod Spoken

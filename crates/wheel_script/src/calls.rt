@@ -6,8 +6,14 @@ use crate::commands::Command;
 use crate::commands::read_command;
 use wheel::head::Dial;
 use wheel::in_place;
-ghost use Prim.Native.Nat.{_≤_};
+ghost use Prim.Native.Nat.{ℕ, _≤_, _/_};
+ghost use mathlib.Core.List.{List};
 ghost use lib.ListN.{length};
+ghost use Rattle.script.specs.Grammar.{readLine};
+ghost use Rattle.meaning.specs.Calls.{Arm, Move, Cancel, Advance};
+ghost use Rattle.dial.specs.Lent.{listsOf};
+ghost use Rattle.wheel_script.specs.Commands.{commandOf};
+ghost use Rattle.wheel_script.specs.Spoken.{Spoken, Spurned, Obeyed};
 
 // What a command leaves: where its answer ends in the output, and the wheel's numbers.
 pub struct Said {
@@ -26,7 +32,10 @@ fn arm(
     deadline: u64,
     load: u64,
 ) -> Said
-    ensures { λ r. ⌜ r .end ≤ length (now (out .entry)) ⌝ }
+    ensures { λ r. ⌜
+        Spoken (Arm deadline load) (listsOf (now (w .entry)) (now (first .entry)) (now (last .entry)) (now (marks .entry)) (d .due)) d (now (out .entry)) at
+        (listsOf (now (w .exit)) (now (first .exit)) (now (last .exit)) (now (marks .exit)) (r .dial .due)) (r .dial) (now (out .exit)) (r .end)
+        ⌝ }
 {
     let done = in_place::arm(w, first, last, marks, d, deadline, load);
     let answer = done.answer;
@@ -46,7 +55,10 @@ fn cancel(
     c: u64,
     k: u64,
 ) -> Said
-    ensures { λ r. ⌜ r .end ≤ length (now (out .entry)) ⌝ }
+    ensures { λ r. ⌜
+        Spoken (Cancel c k) (listsOf (now (w .entry)) (now (first .entry)) (now (last .entry)) (now (marks .entry)) (d .due)) d (now (out .entry)) at
+        (listsOf (now (w .exit)) (now (first .exit)) (now (last .exit)) (now (marks .exit)) (r .dial .due)) (r .dial) (now (out .exit)) (r .end)
+        ⌝ }
 {
     let done = in_place::cancel(w, first, last, marks, d, c, k);
     let answer = done.answer;
@@ -67,7 +79,10 @@ fn move_to(
     k: u64,
     deadline: u64,
 ) -> Said
-    ensures { λ r. ⌜ r .end ≤ length (now (out .entry)) ⌝ }
+    ensures { λ r. ⌜
+        Spoken (Move c k deadline) (listsOf (now (w .entry)) (now (first .entry)) (now (last .entry)) (now (marks .entry)) (d .due)) d (now (out .entry)) at
+        (listsOf (now (w .exit)) (now (first .exit)) (now (last .exit)) (now (marks .exit)) (r .dial .due)) (r .dial) (now (out .exit)) (r .end)
+        ⌝ }
 {
     let done = in_place::move_to(w, first, last, marks, d, c, k, deadline);
     let answer = done.answer;
@@ -88,7 +103,10 @@ fn advance_into(
     target: u64,
     records: &mut [u64],
 ) -> Said
-    ensures { λ r. ⌜ r .end ≤ length (now (out .entry)) ⌝ }
+    ensures { λ r. ⌜
+        Spoken (Advance target (length (now (records .entry)) / 4)) (listsOf (now (w .entry)) (now (first .entry)) (now (last .entry)) (now (marks .entry)) (d .due)) d (now (out .entry)) at
+        (listsOf (now (w .exit)) (now (first .exit)) (now (last .exit)) (now (marks .exit)) (r .dial .due)) (r .dial) (now (out .exit)) (r .end)
+        ⌝ }
 {
     let done = in_place::advance(w, first, last, marks, d, target, records);
     let answer = done.answer;
@@ -110,7 +128,10 @@ fn advance(
     room: u64,
 ) -> Said
     requires { ⌜ room ≤ 64 ⌝ }
-    ensures { λ r. ⌜ r .end ≤ length (now (out .entry)) ⌝ }
+    ensures { λ r. ⌜
+        Spoken (Advance target room) (listsOf (now (w .entry)) (now (first .entry)) (now (last .entry)) (now (marks .entry)) (d .due)) d (now (out .entry)) at
+        (listsOf (now (w .exit)) (now (first .exit)) (now (last .exit)) (now (marks .exit)) (r .dial .due)) (r .dial) (now (out .exit)) (r .end)
+        ⌝ }
 {
     let mut records = [0u64; 256];
     let words = room as usize * 4;
@@ -127,6 +148,14 @@ fn advance(
     )
 }
 
+// A bad line.
+fn spurn(out: &mut [u8], at: usize, d: Dial) -> Said
+    ensures { λ r. ⌜ ((w first last marks : List ℕ) → Spurned (listsOf w first last marks (d .due)) d (now (out .entry)) at (listsOf w first last marks (r .dial .due)) (r .dial) (now (out .exit)) (r .end)) ⌝ }
+{
+    let end = answers::bad_line(out, at);
+    Said { end, dial: d }
+}
+
 // Does what a line after the first says; one that sets a wheel up is bad here.
 pub fn obey(
     out: &mut [u8],
@@ -138,16 +167,17 @@ pub fn obey(
     d: Dial,
     line: &[u8],
 ) -> Said
-    ensures { λ r. ⌜ r .end ≤ length (now (out .entry)) ⌝ }
+    ensures { λ r. ⌜
+        Obeyed (commandOf (readLine (now (line .entry)))) (listsOf (now (w .entry)) (now (first .entry)) (now (last .entry)) (now (marks .entry)) (d .due)) d (now (out .entry)) at
+        (listsOf (now (w .exit)) (now (first .exit)) (now (last .exit)) (now (marks .exit)) (r .dial .due)) (r .dial) (now (out .exit)) (r .end)
+        ⌝ }
 {
     match read_command(line) {
         Command::Arm(e, x) => arm(out, at, w, first, last, marks, d, e, x),
         Command::Cancel(c, k) => cancel(out, at, w, first, last, marks, d, c, k),
         Command::Move(c, k, e) => move_to(out, at, w, first, last, marks, d, c, k, e),
         Command::Advance(t, room) => advance(out, at, w, first, last, marks, d, t, room),
-        _ => Said {
-            end: answers::bad_line(out, at),
-            dial: d,
-        },
+        Command::Wheel(_, _) => spurn(out, at, d),
+        Command::Bad => spurn(out, at, d),
     }
 }

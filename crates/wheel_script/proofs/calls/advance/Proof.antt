@@ -1,6 +1,7 @@
--- `wheel_script::calls::advance` meets its contract: the words of the records are at most 256. Assumes nothing.
+-- `wheel_script::calls::advance` meets its contract: the words of the records are at most 256, four for each of the room. Assumes nothing.
 use mathlib.Core.Path.{sym}
 use lib.Seq.{length-take-le}
+use Rattle.wheel_script.proofs.Speaking.{room-named}
 use borrow.Author.Needs.{needs}
 use Rattle.wheel_script.proofs.calls.advance.Statement.{statement}
 use Rattle.wheel_script.proofs.calls.advance.Tie as tie
@@ -33,7 +34,7 @@ same-length-5 : tie.Need-same-length-5
 same-length-5 c = search needs
 
 returns : tie.Need-returns
-returns c = search needs
+returns c = room-named _ _ _ _ _ _ _ _ _ _ _ (slice-aggregate-advance-into (c .before .before .before .before .before .before .before .before .before .before .before .before)) (c .before .before .before .before .before .before .before .before .before .before .before .advance-into .ensures)
 
 pub advance-spec : {M : Type 1} → statement M
 advance-spec =

@@ -1,5 +1,6 @@
--- `wheel_script::calls::obey` meets its contract: only a room of at most 64 is given. Assumes nothing.
+-- `wheel_script::calls::obey` meets its contract: each command by its call, and only a room of at most 64 is given. Assumes nothing.
 use mathlib.Core.Path.{sym, _∙_}
+use Rattle.wheel_script.specs.Spoken.{Obeyed}
 use Rattle.wheel_script.proofs.Rooms.{room-bound}
 use borrow.Author.Needs.{needs}
 use Rattle.wheel_script.proofs.calls.obey.Statement.{statement}
@@ -32,8 +33,17 @@ enum-known-t c = search needs
 advance-requires : tie.Need-advance-requires
 advance-requires c κs = room-bound _ _ _ (sym (c .before .before .before .before .before .before .before .before .read-command .ensures) ∙ c .before .before .before .before .before .before .t .given .1)
 
-bad-line-requires : tie.Need-bad-line-requires
-bad-line-requires c κs = search needs
+enum-told : tie.Need-enum-told
+enum-told c = search needs
+
+spurn-requires : tie.Need-spurn-requires
+spurn-requires c κs = search needs
+
+enum-told-2 : tie.Need-enum-told-2
+enum-told-2 c = search needs
+
+spurn-requires-2 : tie.Need-spurn-requires-2
+spurn-requires-2 c κs = search needs
 
 same-length : tie.Need-same-length
 same-length c = search needs
@@ -51,7 +61,8 @@ same-length-5 : tie.Need-same-length-5
 same-length-5 c = search needs
 
 returns : tie.Need-returns
-returns c = search needs
+unfolding Obeyed
+returns c = rw (sym (c .before .before .before .before .before .before .before .before .before .before .before .before .before .before .before .before .before .before .before .read-command .ensures) ∙ c .before .before .before .before .before .before .before .before .before .before .before .before .before .before .before .before .before .e .given .1) (c .before .before .before .before .before .before .before .before .before .before .arm .ensures)
 
 same-length-6 : tie.Need-same-length-6
 same-length-6 c = search needs
@@ -69,7 +80,8 @@ same-length-10 : tie.Need-same-length-10
 same-length-10 c = search needs
 
 returns-2 : tie.Need-returns-2
-returns-2 c = search needs
+unfolding Obeyed
+returns-2 c = rw (sym (c .before .before .before .before .before .before .before .before .before .before .before .before .before .before .before .before .before .before .before .read-command .ensures) ∙ c .before .before .before .before .before .before .before .before .before .before .before .before .before .before .before .before .before .c .given .1) (c .before .before .before .before .before .before .before .before .before .before .cancel .ensures)
 
 same-length-11 : tie.Need-same-length-11
 same-length-11 c = search needs
@@ -87,7 +99,8 @@ same-length-15 : tie.Need-same-length-15
 same-length-15 c = search needs
 
 returns-3 : tie.Need-returns-3
-returns-3 c = search needs
+unfolding Obeyed
+returns-3 c = rw (sym (c .before .before .before .before .before .before .before .before .before .before .before .before .before .before .before .before .before .before .before .read-command .ensures) ∙ c .before .before .before .before .before .before .before .before .before .before .before .before .before .before .before .before .before .c2 .given .1) (c .before .before .before .before .before .before .before .before .before .before .move-to .ensures)
 
 same-length-16 : tie.Need-same-length-16
 same-length-16 c = search needs
@@ -105,13 +118,22 @@ same-length-20 : tie.Need-same-length-20
 same-length-20 c = search needs
 
 returns-4 : tie.Need-returns-4
-returns-4 c = search needs
+unfolding Obeyed
+returns-4 c = rw (sym (c .before .before .before .before .before .before .before .before .before .before .before .before .before .before .before .before .before .before .before .read-command .ensures) ∙ c .before .before .before .before .before .before .before .before .before .before .before .before .before .before .before .before .before .t .given .1) (c .before .before .before .before .before .before .before .before .before .before .advance .ensures)
 
 same-length-21 : tie.Need-same-length-21
 same-length-21 c = search needs
 
 returns-5 : tie.Need-returns-5
-returns-5 c = search needs
+unfolding Obeyed
+returns-5 c = rw (sym (c .before .before .before .before .before .before .read-command .ensures) ∙ c .before .before .before .before .enum-told .given .1) (c .before .before .spurn .ensures _ _ _ _)
+
+same-length-22 : tie.Need-same-length-22
+same-length-22 c = search needs
+
+returns-6 : tie.Need-returns-6
+unfolding Obeyed
+returns-6 c = rw (sym (c .before .before .before .before .before .before .read-command .ensures) ∙ c .before .before .before .before .enum-told2 .given .1) (c .before .before .spurn2 .ensures _ _ _ _)
 
 pub obey-spec : {M : Type 1} → statement M
 obey-spec =
@@ -126,7 +148,10 @@ obey-spec =
     move-to-requires
     enum-known-t
     advance-requires
-    bad-line-requires
+    enum-told
+    spurn-requires
+    enum-told-2
+    spurn-requires-2
     same-length
     same-length-2
     same-length-3
@@ -152,4 +177,6 @@ obey-spec =
     same-length-20
     returns-4
     same-length-21
-    returns-5)
+    returns-5
+    same-length-22
+    returns-6)

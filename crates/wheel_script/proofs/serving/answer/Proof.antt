@@ -3,6 +3,7 @@ use native.Mathlib.Omega.{arith}
 use mathlib.Core.Path.{sym, ap}
 use lib.Seq.{length-take-le}
 use Rattle.wheel_script.specs.Sessions.{wordsOf}
+use Rattle.wheel_script.proofs.Speaking.{obeyed-within}
 use borrow.Author.Needs.{needs}
 use Rattle.wheel_script.proofs.serving.answer.Statement.{statement}
 use Rattle.wheel_script.proofs.serving.answer.Tie as tie
@@ -58,7 +59,7 @@ same-length-7 c = search needs
 
 returns-2 : tie.Need-returns-2
 unfolding wordsOf
-returns-2 c = record { place = search needs; wheel = slice-relend-prefix-obey (c .before .before .before .before .before .before .before .before .before .before .before .before .before .before .before .before) }
+returns-2 c = record { place = obeyed-within _ _ _ _ _ _ _ _ _ (c .before .before .before .before .before .before .before .before .before .before .before .obey .ensures); wheel = slice-relend-prefix-obey (c .before .before .before .before .before .before .before .before .before .before .before .before .before .before .before .before) }
 
 returns-3 : tie.Need-returns-3
 returns-3 c = search needs
