@@ -1,8 +1,15 @@
-// What an advance has by value, beside the slices that are lent to it.
+// What the wheel's head and an advance have by value, beside the slices that are lent.
 
 use cells::store::Store;
 use slots::ring::Ends;
 ghost use mathlib.Core.Path.{_≡_};
+
+// The numbers of a wheel's head: the clock, the due list's ends, and the cell store's head.
+pub struct Dial {
+    pub clock: u64,
+    pub due: Ends,
+    pub store: Store,
+}
 
 // The clock, the due list's ends, the cell store's head, the records in the output, and the moves made.
 pub struct Turn {

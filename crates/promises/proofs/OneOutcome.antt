@@ -28,7 +28,7 @@ use Rattle.queue.specs.declared.head.Head as queueHead
 use Rattle.queue.proofs.Outcomes as queueOutcomes
 use Rattle.wheel.specs.Promise.{headLists, DialShows, Promise, Advances}
 use Rattle.wheel.specs.declared.head.AdvanceAnswer.{AdvanceAnswer}
-use Rattle.wheel.specs.declared.head.Dial.{Dial}
+use Rattle.dial.specs.declared.state.Dial.{Dial}
 use Rattle.wheel.specs.declared.head.Head.{Head}
 use Rattle.wheel.proofs.AdvanceOutcome.{SameAdvance, one-advance}
 use Rattle.wheel.proofs.Outcomes.{Same, one-quick}

@@ -19,13 +19,13 @@ use Rattle.queue.proofs.ShownSound as queueShown
 use Rattle.queue.proofs.SoundShown as queueSound
 use Rattle.wheel.specs.Answers.{toldAdvance}
 use Rattle.wheel.specs.Promise.{headLists, Checked, CheckedAdvance}
-use Rattle.wheel.specs.Rules.{WheelSound}
+use Rattle.wheel_rules.specs.Rules.{WheelSound}
 use Rattle.wheel.specs.declared.head.AdvanceAnswer.{AdvanceAnswer}
 use Rattle.wheel.specs.declared.head.AdvanceAnswer.the-variants as advance
 use Rattle.wheel.specs.declared.head.Head.{Head}
 use Rattle.wheel.proofs.Outcomes.{answers-plain}
-use Rattle.wheel.proofs.ShownSound.{shown-sound}
-use Rattle.wheel.proofs.SoundShown.{sound-shown}
+use Rattle.wheel_rules.proofs.ShownSound.{shown-sound}
+use Rattle.wheel_rules.proofs.SoundShown.{sound-shown}
 use Rattle.promises.specs.Made.{Lent}
 use Rattle.promises.specs.QueueRuns as queueRuns
 use Rattle.promises.specs.Refusals.{FirstIs}

@@ -27,18 +27,18 @@ use Rattle.queue.proofs.Outcomes.{refusal-leaves}
 use Rattle.queue.proofs.ShownSound as queueShown
 use Rattle.queue.proofs.SoundShown as queueSound
 use Rattle.wheel.specs.Answers.{report, toldAdvance, written}
-use Rattle.wheel.specs.AuditTests.{auditTest}
+use Rattle.wheel_rules.specs.AuditTests.{auditTest}
 use Rattle.wheel.specs.Promise.{headLists, DialShows, Broken, Promise, Advances, Checked, CheckedAdvance}
 use Rattle.wheel.specs.SetUps.{setUpCauses, setUpAnswer, setUpWords}
 use Rattle.wheel.specs.declared.head.SetUpAnswer.the-variants as setUp
 use Rattle.wheel.specs.declared.head.AdvanceAnswer.{AdvanceAnswer}
 use Rattle.wheel.specs.declared.head.AdvanceAnswer.the-variants as advance
-use Rattle.wheel.specs.declared.head.Dial.{Dial}
+use Rattle.dial.specs.declared.state.Dial.{Dial}
 use Rattle.wheel.specs.declared.head.Head.{Head}
-use Rattle.wheel.proofs.Audits.{audit-decides}
+use Rattle.wheel_rules.proofs.Audits.{audit-decides}
 use Rattle.wheel.proofs.Outcomes.{one-quick}
-use Rattle.wheel.proofs.ShownSound.{shown-sound}
-use Rattle.wheel.proofs.SoundShown.{sound-shown}
+use Rattle.wheel_rules.proofs.ShownSound.{shown-sound}
+use Rattle.wheel_rules.proofs.SoundShown.{sound-shown}
 use Rattle.promises.specs.Made.{Lent}
 use Rattle.promises.specs.QueueRuns as queueRuns
 use Rattle.promises.specs.WheelRuns.{OneCall, Holds}

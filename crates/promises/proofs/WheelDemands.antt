@@ -21,7 +21,7 @@ use Rattle.dial.proofs.Listed.{step-plain}
 use Rattle.wheel.specs.Answers.{toldSetUp}
 use Rattle.wheel.specs.Promise.{headLists, Promise}
 use Rattle.wheel.specs.SetUps.{setUpCauses, emptyHead, freshStore, setUpAnswer, setUpHead, setUpWords}
-use Rattle.wheel.specs.declared.head.Dial.{Dial}
+use Rattle.dial.specs.declared.state.Dial.{Dial}
 use Rattle.wheel.specs.declared.head.Head.{Head}
 use Rattle.wheel.specs.declared.head.SetUpAnswer.{SetUpAnswer}
 use Rattle.wheel.specs.declared.head.SetUpAnswer.the-variants as setUp

@@ -12,7 +12,7 @@ use Rattle.dial.specs.Joined.{listed}
 use Rattle.wheel.specs.Answers.{toldAdvance}
 use Rattle.wheel.specs.Promise.{headLists, DialShows, Promise, Advances, Checked, CheckedAdvance}
 use Rattle.wheel.specs.SetUps.{setUpAnswer, setUpHead, setUpWords}
-use Rattle.wheel.specs.declared.head.Dial.{Dial}
+use Rattle.dial.specs.declared.state.Dial.{Dial}
 use Rattle.wheel.specs.declared.head.Head.{Head}
 use Rattle.wheel.specs.declared.head.AdvanceAnswer.{AdvanceAnswer}
 use Rattle.wheel.specs.declared.head.SetUpAnswer.the-variants as setUp

@@ -12,16 +12,16 @@ use Rattle.meaning.specs.Calls.{Shown, Report, Answer, Advance, isRefused, repo
 use Rattle.meaning.specs.Plain.{Plain}
 use Rattle.slots.specs.Rings.{Lists}
 use Rattle.wheel.specs.Answers.{recordIn, recordsIn, report, toldAdvance, written}
-use Rattle.wheel.specs.AuditTests.{auditTest}
+use Rattle.wheel_rules.specs.AuditTests.{auditTest}
 use Rattle.wheel.specs.Promise.{headLists, DialShows, Broken, Advances, CheckedAdvance}
 use Rattle.wheel.specs.declared.head.AdvanceAnswer.{AdvanceAnswer}
 use Rattle.wheel.specs.declared.head.AdvanceAnswer.the-variants as advance
-use Rattle.wheel.specs.declared.head.Dial.{Dial}
+use Rattle.dial.specs.declared.state.Dial.{Dial}
 use Rattle.wheel.specs.declared.head.Head.{Head}
-use Rattle.wheel.proofs.Audits.{audit-decides}
+use Rattle.wheel_rules.proofs.Audits.{audit-decides}
 use Rattle.wheel.proofs.Outcomes.{Same, one-quick}
-use Rattle.wheel.proofs.ShownSound.{shown-sound}
-use Rattle.wheel.proofs.SoundShown.{sound-shown}
+use Rattle.wheel_rules.proofs.ShownSound.{shown-sound}
+use Rattle.wheel_rules.proofs.SoundShown.{sound-shown}
 
 -- Lists that are as long, with the same first n numbers and the same rest, are one.
 front : (n : ℕ) (xs ys : List ℕ) → length xs ≡ length ys → ((i : ℕ) → i < n → getD xs i 0 ≡ getD ys i 0) → drop n xs ≡ drop n ys → xs ≡ ys

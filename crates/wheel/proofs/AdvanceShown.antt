@@ -35,7 +35,7 @@ use Rattle.wheel.specs.Answers.{recordIn, recordsIn, toldAdvance, writte
 use Rattle.wheel.specs.Answers as answers
 use Rattle.wheel.specs.Promise.{DialShows, Done, Advances}
 use Rattle.wheel.specs.Refiled.{endedWith, endedAnswer}
-use Rattle.wheel.specs.declared.head.Dial.{Dial}
+use Rattle.dial.specs.declared.state.Dial.{Dial}
 use Rattle.wheel.specs.declared.head.AdvanceAnswer.{AdvanceAnswer}
 use Rattle.wheel.specs.declared.head.AdvanceAnswer.the-variants as advance
 use Rattle.wheel.proofs.CallsShown.{refused-done}

@@ -52,7 +52,7 @@ use Rattle.dial.proofs.Listed.{listed-named}
 use Rattle.dial.proofs.StableKept.{valid-step}
 use Rattle.wheel.specs.Promise.{DialShows, Done}
 use Rattle.wheel.specs.Refiled.{refiledLists}
-use Rattle.wheel.specs.declared.head.Dial.{Dial}
+use Rattle.dial.specs.declared.state.Dial.{Dial}
 
 -- The numbers after an arm that took the top of the free stack; the due list is left.
 abbrev pub armedDial : Lists → Dial → Dial

@@ -9,13 +9,13 @@ use Rattle.cells.proofs.Cases.{clash}
 use Rattle.meaning.specs.Calls.{Call, Answer, Refused}
 use Rattle.wheel.specs.Answers.{toldAdvance, written}
 use Rattle.wheel.specs.Promise.{headLists, Broken, Promise, Advances, Checked, CheckedAdvance}
-use Rattle.wheel.specs.Rules.{WheelSound}
+use Rattle.wheel_rules.specs.Rules.{WheelSound}
 use Rattle.wheel.specs.declared.head.AdvanceAnswer.{AdvanceAnswer}
 use Rattle.wheel.specs.declared.head.AdvanceAnswer.the-variants as advance
 use Rattle.wheel.specs.declared.head.Head.{Head}
 use Rattle.wheel.proofs.Promised.{stays}
-use Rattle.wheel.proofs.ShownSound.{shown-sound}
-use Rattle.wheel.proofs.SoundShown.{sound-shown}
+use Rattle.wheel_rules.proofs.ShownSound.{shown-sound}
+use Rattle.wheel_rules.proofs.SoundShown.{sound-shown}
 
 module _ (h : Head) (w : List ℕ) (passes : Bool) (audit : (passes ≡ true) ↔ WheelSound (headLists h w) (h .dial)) where
   -- What fails the audit shows no model.

@@ -11,14 +11,14 @@ use Rattle.meaning.specs.Plain.{Plain}
 use Rattle.slots.specs.Rings.{Lists}
 use Rattle.dial.specs.Joined.{listed, step}
 use Rattle.dial.proofs.Listed.{step-plain}
-use Rattle.wheel.specs.AuditTests.{auditTest}
+use Rattle.wheel_rules.specs.AuditTests.{auditTest}
 use Rattle.wheel.specs.Promise.{headLists, DialShows, Broken, Done, Promise, Checked}
-use Rattle.wheel.specs.declared.head.Dial.{Dial}
+use Rattle.dial.specs.declared.state.Dial.{Dial}
 use Rattle.wheel.specs.declared.head.Head.{Head}
-use Rattle.wheel.proofs.Audits.{audit-decides}
-use Rattle.wheel.proofs.OneMemory.{one-memory}
-use Rattle.wheel.proofs.ShownSound.{shown-sound}
-use Rattle.wheel.proofs.SoundShown.{sound-shown}
+use Rattle.wheel_rules.proofs.Audits.{audit-decides}
+use Rattle.wheel_rules.proofs.OneMemory.{one-memory}
+use Rattle.wheel_rules.proofs.ShownSound.{shown-sound}
+use Rattle.wheel_rules.proofs.SoundShown.{sound-shown}
 
 -- The same answer, head and words.
 pub record Same (a : Answer) (h : Head) (w : List ℕ) (a′ : Answer) (h′ : Head) (w′ : List ℕ) : Type 0 where

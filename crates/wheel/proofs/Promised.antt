@@ -26,7 +26,7 @@ use Rattle.dial.specs.Shows.{Shows}
 use Rattle.dial.specs.Turns.{listOf, withWords}
 use Rattle.wheel.specs.Promise.{DialShows, Done, Promise}
 use Rattle.wheel.specs.Refiled.{refiledLists}
-use Rattle.wheel.specs.declared.head.Dial.{Dial}
+use Rattle.dial.specs.declared.state.Dial.{Dial}
 use Rattle.wheel.proofs.CallsShown.{arm-beyond, arm-past, arm-full, arm-spent, arm-done, cancel-stale, cancel-done, move-stale, move-beyond, move-past, move-spent, move-done}
 
 -- As many words and the same last ones, and what is done where a model is shown: that is a promise.

@@ -31,7 +31,7 @@ use Rattle.dial.proofs.ListTicks.{next-tick, first-low, first-some, none-ahead}
 use Rattle.dial.proofs.TurnSteps.{first-slot, wake-at}
 use Rattle.dial.proofs.Wakings.{wakes, Ahead, NextTick}
 use Rattle.wheel.specs.Promise.{DialShows, Done, Promise}
-use Rattle.wheel.specs.declared.head.Dial.{Dial}
+use Rattle.dial.specs.declared.state.Dial.{Dial}
 use Rattle.wheel.proofs.CallsShown.{done-by}
 
 module _ (l : Lists) (d : Dial) (m : Plain) (s : DialShows l d m) where

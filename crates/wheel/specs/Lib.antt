@@ -1,7 +1,5 @@
 -- The wheel's answers, and what its calls promise.
 pub mod Answers
 pub mod Promise
-pub mod Rules
 pub mod SetUps
 pub mod Refiled
-pub mod AuditTests

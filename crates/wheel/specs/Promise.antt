@@ -8,9 +8,9 @@ use Rattle.meaning.specs.Calls.{Call, Answer, Refused, Advance}
 use Rattle.meaning.specs.Plain.{Plain}
 use Rattle.slots.specs.Rings.{Lists}
 use Rattle.dial.specs.Joined.{step}
-use Rattle.dial.specs.Shows.{Shows}
+use Rattle.dial.specs.declared.state.Dial.{Dial}
+pub use Rattle.wheel_rules.specs.Shown.{DialShows}
 use Rattle.wheel.specs.Answers.{toldAdvance, written}
-use Rattle.wheel.specs.declared.head.Dial.{Dial}
 use Rattle.wheel.specs.declared.head.Head.{Head}
 use Rattle.wheel.specs.declared.head.AdvanceAnswer.{AdvanceAnswer}
 use Rattle.wheel.specs.declared.head.AdvanceAnswer.the-variants as advance
@@ -18,10 +18,6 @@ use Rattle.wheel.specs.declared.head.AdvanceAnswer.the-variants as advan
 -- The lists of a head.
 unfoldable pub headLists : Head → List ℕ → Lists
 headLists h w = record { words = w; first = h .first; last = h .last; marks = h .marks; due = h .dial .due }
-
--- Lists and numbers are a model.
-abbrev pub DialShows : Lists → Dial → Plain → Type 0
-DialShows l d m = Shows l (d .clock) (d .store) m
 
 -- What a call makes of a model: the answer is the model's, and what it leaves shows the next model.
 pub record Done (call : Call) (m : Plain) (a : Answer) (l : Lists) (d : Dial) : Type 0 where

@@ -1,14 +1,6 @@
 // The wheel's head, and what its calls answer: either a refusal by its number, or the result with its data. States with arrays stand beside the answers.
 
-use cells::store::Store;
-use slots::ring::Ends;
-
-// The head's numbers: the clock, the due list's ends, and the cell store's head.
-pub struct Dial {
-    pub clock: u64,
-    pub due: Ends,
-    pub store: Store,
-}
+pub use dial::state::Dial;
 
 // The first and the last cell of each of 384 slots, 4096 where there is none, a word of marks for each level, and the numbers.
 pub struct Head {

@@ -1,8 +1,7 @@
--- `wheel::audit::audit` meets its contract: its tests decide the rules.
+-- `wheel::audit::audit` meets its contract: the arrays of the head are those that it lends.
 -- Assumes nothing.
 use borrow.Author.Needs.{needs}
 use Rattle.wheel.specs.Promise.{headLists}
-use Rattle.wheel.proofs.Audits.{audit-answers}
 use Rattle.wheel.proofs.audit.audit.Statement.{statement}
 use Rattle.wheel.proofs.audit.audit.Tie as tie
 
@@ -20,7 +19,7 @@ lent-sound-requires c κs = search needs
 
 returns : tie.Need-returns
 unfolding headLists
-returns c = audit-answers _ _ _ (c .lent-sound .ensures)
+returns c = c .lent-sound .ensures
 
 pub audit-spec : {M : Type 1} → statement M
 audit-spec =

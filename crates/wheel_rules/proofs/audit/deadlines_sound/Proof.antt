@@ -1,0 +1,56 @@
+-- `wheel_rules::audit::deadlines_sound` meets its contract. The invariant: the cells passed are sound.
+-- Assumes nothing.
+use Prim.Native.Nat.{_-_, _≤_}
+use native.Mathlib.Omega.{arith}
+use mathlib.Core.Bool.{true}
+use mathlib.Core.Path.{_≡_, refl, sym, _∙_}
+use borrow.Author.Needs.{needs}
+use borrow.Author.Tests.{not-true, not-false}
+use Rattle.cells.specs.AuditTests.{allBelow}
+use Rattle.cells.proofs.Below.{below-step, below-fails, below-end}
+use Rattle.wheel_rules.specs.AuditTests.{deadlineTest}
+use Rattle.wheel_rules.proofs.audit.deadlines_sound.Statement.{statement}
+use Rattle.wheel_rules.proofs.audit.deadlines_sound.Tie as tie
+
+abbrev Inv-loop : tie.InvT-loop
+Inv-loop w n clock c₀ c = (c ≤ n) × (allBelow c (deadlineTest w clock) ≡ true)
+
+abbrev μ-loop : tie.MeasureT-loop
+μ-loop w n clock c₀ c = n - c
+
+loop-holds : tie.Need-loop-holds Inv-loop μ-loop
+unfolding allBelow
+loop-holds c = (omega arith, refl)
+
+deadline-sound-requires : tie.Need-deadline-sound-requires Inv-loop μ-loop
+deadline-sound-requires c κs = search needs
+
+returns : tie.Need-returns Inv-loop μ-loop
+returns c = sym (below-fails _ _ _ (search needs) (sym (c .before .deadline-sound .ensures) ∙ not-true _ (c .if1 .taken)))
+
+add-c : tie.Need-add-c Inv-loop μ-loop
+add-c c = omega arith
+
+loop-less : tie.Need-loop-less Inv-loop μ-loop
+loop-less c = omega arith
+
+loop-again : tie.Need-loop-again Inv-loop μ-loop
+loop-again c =
+    (omega arith, below-step _ _ (c .before .before .before .loop .inv .1) (sym (c .before .deadline-sound .ensures) ∙ not-false _ (c .if1 .left)))
+
+returns-2 : tie.Need-returns-2 Inv-loop μ-loop
+returns-2 c = below-end _ _ _ (omega arith) (c .before .loop .inv .1)
+
+pub deadlines-sound-spec : {M : Type 1} → statement M
+deadlines-sound-spec =
+    tie.close
+    (tie.spec
+    Inv-loop
+    μ-loop
+    loop-holds
+    deadline-sound-requires
+    returns
+    add-c
+    loop-less
+    loop-again
+    returns-2)

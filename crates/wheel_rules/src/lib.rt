@@ -1,0 +1,3 @@
+// The rules of the wheel, and their audit over lent arrays.
+
+pub mod audit;
