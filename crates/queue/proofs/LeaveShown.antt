@@ -1,6 +1,6 @@
 -- What take and remove make of a model that head and words show: an entry leaves the heap, and its cell goes on top of the free stack.
 -- Assumes nothing.
-use Prim.Native.Nat.{ℕ, zero, suc, _/_, _-_, _≤_, _<_}
+use Prim.Native.Nat.{ℕ, suc, _/_, _-_, _≤_, _<_}
 use native.Mathlib.Omega.{arith}
 use mathlib.Core.Bool.{true, false}
 use mathlib.Core.List.{List, [], _∷_, map}
@@ -17,10 +17,10 @@ use Rattle.cells.proofs.Lists.{all-map, all-both, all-take, all-read, times-her
 use Rattle.cells.proofs.Memory.{word-no-field}
 use Rattle.cells.proofs.Sums.{all-standing, cond-bit}
 use Rattle.cells.proofs.Chains.{chain-links}
-use Rattle.cells.proofs.Rows.{Rewritten, releasedWord, released-words}
+use Rattle.cells.proofs.Rows.{Rewritten, releasedWord, released-words, released-blank}
 use Rattle.meaning.specs.Entries.{Entry, named}
 use Rattle.meaning.specs.Refusals.{firstOf, isEmpty, isNone, stale, empty}
-use Rattle.meaning.specs.Calls.{Call, First, Take, Remove, Answer, Refused, Load, shown, causes}
+use Rattle.meaning.specs.Calls.{Call, First, Take, Remove, Answer, Load, shown, causes}
 use Rattle.meaning.specs.Calls as calls
 use Rattle.meaning.specs.Heap.{at, heapRemove, heapMoves}
 use Rattle.meaning.proofs.Handles.{ticketOf}
@@ -33,12 +33,12 @@ use Rattle.meaning.proofs.ByPosition.{all-at, at-stands}
 use Rattle.heap.proofs.Carrying.{settle-carries}
 use Rattle.heap.proofs.Seating.{all-set, all-exchange}
 use Rattle.heap.proofs.RemoveMoves.{refilled, remove-last, remove-inner, refilled-length}
-use Rattle.heap.proofs.Moves.{Differ, moved-still, moves-exactly}
+use Rattle.heap.proofs.Moves.{Differ}
 use Rattle.heap.proofs.Walks.{Comes}
-use Rattle.queue.specs.Model.{Model, Step, asPlain, seatOf, keeping, acceptedBy, step, stepMoves}
+use Rattle.queue.specs.Model.{Model, Step, asPlain, keeping, acceptedBy, step}
 use Rattle.queue.specs.Means.{OfQueue}
 use Rattle.queue.specs.Shows.{Valid, Carried, Shows}
-use Rattle.queue.specs.Answers.{Told, told, refusal, handed}
+use Rattle.queue.specs.Answers.{told, refusal, handed}
 use Rattle.queue.specs.Cells.{foundIn}
 use Rattle.queue.specs.Promise.{Done}
 use Rattle.queue.specs.declared.head.Head.{Head}
@@ -100,19 +100,6 @@ cell-leaves w d p h l a =
       times-remove (λ (e : Entry). e .cell) c d p h l,
       times-here c c (cellsOf (heapRemove d p h)) refl,
     )
-
--- A cell that was given back keeps nothing but its link and the position table's word.
-released-blank : (w : List ℕ) (c top f : ℕ) → f < 8 → f ≢ 4 → f ≢ 6 → releasedWord w c top f ≡ 0
-unfolding releasedWord
-released-blank w c top zero i n m = refl
-released-blank w c top (suc zero) i n m = refl
-released-blank w c top (suc (suc zero)) i n m = refl
-released-blank w c top (suc (suc (suc zero))) i n m = refl
-released-blank w c top (suc (suc (suc (suc zero)))) i n m = absurd (n refl)
-released-blank w c top (suc (suc (suc (suc (suc zero))))) i n m = refl
-released-blank w c top (suc (suc (suc (suc (suc (suc zero)))))) i n m = absurd (m refl)
-released-blank w c top (suc (suc (suc (suc (suc (suc (suc zero))))))) i n m = refl
-released-blank w c top (suc (suc (suc (suc (suc (suc (suc (suc f)))))))) i n m = absurd (omega arith)
 
 -- A list of no entries is empty.
 empty-none : (es : List Entry) → length es ≡ 0 → isEmpty es ≡ true

@@ -1,9 +1,9 @@
 -- A rekey on the words is the model's: what the heap asks of the words with the new key in them, and what the call has done afterwards.
 -- Assumes nothing.
-use Prim.Native.Nat.{ℕ, suc, _+_, _/_, _≤_, _<_}
+use Prim.Native.Nat.{ℕ, _+_, _/_, _≤_, _<_}
 use native.Mathlib.Omega.{arith}
 use mathlib.Core.Bool.{true, false, cond}
-use mathlib.Core.List.{List, [], _∷_}
+use mathlib.Core.List.{List}
 use mathlib.Core.Logic.{_≢_}
 use mathlib.Core.Path.{_≡_, refl, sym, ap, _∙_}
 use lib.Dec.{eqb, ltb}
@@ -28,9 +28,9 @@ use Rattle.meaning.proofs.Given.{given-free}
 use Rattle.heap.specs.Seats.{Walk}
 use Rattle.heap.specs.Stands.{cellsOf, Stands, Ranks, Apart}
 use Rattle.heap.proofs.Carrying.{settle-carries}
-use Rattle.meaning.proofs.ByPosition.{all-at, at-stands, one-position}
+use Rattle.meaning.proofs.ByPosition.{all-at, at-stands, one-position, at-all}
 use Rattle.heap.proofs.Exchanges.{at-set, at-set-other, length-heapRekey}
-use Rattle.heap.proofs.Moves.{Differ, moved-still, moves-exactly}
+use Rattle.heap.proofs.Moves.{Differ}
 use Rattle.heap.proofs.Permutes.{times-set}
 use Rattle.heap.proofs.Seating.{all-set, all-exchange}
 use Rattle.heap.proofs.Walks.{Comes}
@@ -82,12 +82,6 @@ pub record RekeyReady (h : Head) (w : List ℕ) (m : Model) (c key : ℕ) : Type
   pub apart : Apart (rekeyedWords h w c key) (rekeyedHeap w m c key)
   pub tickets : Differ (m .heap)
   pub limit : length (m .heap) ≤ 4096
-
--- What holds of the entry at each filled position holds of all.
-pub all-positions : (P : Entry → Type 0) (h : List Entry) → ((p : ℕ) → p < length h → P (at h p)) → All P h
-unfolding at
-all-positions P [] f = tt
-all-positions P (x ∷ xs) f = (f 0 (omega arith), all-positions P xs (λ p l. f (suc p) (omega arith)))
 
 -- What a call is given where no cause applies.
 pub step-accepted : (call : Call) (m : Model) → Free (causes 64 6 call (asPlain m)) → step call m ≡ acceptedBy call m
@@ -169,7 +163,7 @@ module _ (h : Head) (w : List ℕ) (m : Model) (s : Shows h w m) (c k key : ℕ)
   carried : All (Carried (rekeyedWords h w c key)) (rekeyedHeap w m c key)
   carried =
       let long = length-set (m .heap) (word w c 5) (rekeyed w m c key) in
-      all-positions _ (rekeyedHeap w m c key)
+      at-all _ (rekeyedHeap w m c key)
       (λ q l.
       same? q (word w c 5)
       (λ e. rw (e, at-set (m .heap) (word w c 5) (rekeyed w m c key) seated) own-carried)
