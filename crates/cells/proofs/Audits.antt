@@ -11,7 +11,7 @@ use lib.ListN.{length, take, drop}
 use lib.Seq.{take-at}
 use borrow.Author.Tests.{eq-eqb, eqb-true, leb-true, le-leb, lt-ltb, ltb-true}
 use Rattle.cells.specs.Lists.{times}
-use Rattle.cells.specs.Sorted.{sortBy, cellLeq, sortedList, neighboursDiffer}
+use Rattle.cells.specs.Sorted.{sortBy, cellLeq, neighboursDiffer}
 use Rattle.cells.specs.Rules.{inUse, Differ, Sound}
 use Rattle.cells.specs.AuditTests.{allBelow, cellTest, differTest, usedBelow, sizeTest, sharedTest}
 use Rattle.cells.specs.Stack.{stackTest}
@@ -22,11 +22,6 @@ use Rattle.cells.proofs.Stacks.{stackTest-exactly}
 use Rattle.cells.proofs.Rules.{cells-rules, times-used}
 use Rattle.cells.proofs.Distinct.{sorted-differ}
 use Rattle.cells.proofs.Steps.{used-length, gather-length}
-
--- With room of the same length the list is sorted.
-pub sort-equal : (w : List ℕ) (f g : ℕ) (a spare : List ℕ) → length a ≡ length spare → sortedList w f g a spare ≡ sortBy (cellLeq w f g) a
-unfolding sortedList
-sort-equal w f g a spare e = rw (eq-eqb (length a) (length spare) e)
 
 -- The first of two tests fails, or the second decides.
 pub both-first : (w a : List ℕ) (r : Bool) → r ≡ neighboursDiffer w 0 (sortBy (cellLeq w 0 0) a) → r ≡ false → false ≡ differTest w a

@@ -140,12 +140,6 @@ module _ (w : List ℕ) where
   unfolding setUpAnswer setUpWords
   set-up-right e = (rw e, rw e)
 
-  pub set-up-length : length (setUpWords w) ≡ length w
-  set-up-length =
-      test (wrongSize (length w / 8))
-      (λ e. ap length (set-up-wrong e .1))
-      (λ e. ap length (set-up-right e .1) ∙ fresh-length)
-
   -- "The last L mod 8 words are never touched."
   pub set-up-tail : drop (length w / 8 * 8) (setUpWords w) ≡ drop (length w / 8 * 8) w
   set-up-tail =

@@ -1,6 +1,6 @@
 -- Each word of the memory that a claim or a release leaves: one cell is rewritten, and all else stays.
 -- Assumes nothing.
-use Prim.Native.Nat.{ℕ, zero, suc, _*_, _/_, _<_}
+use Prim.Native.Nat.{ℕ, _*_, _/_, _<_}
 use native.Mathlib.Omega.{arith}
 use mathlib.Core.Bool.{cond}
 use mathlib.Core.List.{List}
@@ -10,7 +10,7 @@ use lib.ListN.{length, drop}
 use lib.Dec.{eqb}
 use borrow.Author.Tests.{eq-eqb, ne-eqb}
 use Rattle.cells.proofs.Cases.{same?}
-use Rattle.cells.proofs.Places.{put-length, put-same, put-other-field, put-other-cell, put-tail, words-ext}
+use Rattle.cells.proofs.Places.{put-length, put-same, put-other-field, put-other-cell, put-tail, each-field}
 use Rattle.cells.specs.Words.{word, putWord}
 use Rattle.cells.specs.Store.{entered, wiped, releaseWords}
 use Rattle.cells.specs.declared.store.Store.{Store}
@@ -56,25 +56,6 @@ module _ (w : List ℕ) (c : ℕ) where
           ∙ ap (λ (n : ℕ). drop (n / 8 * 8) x) (r .long)
           ∙ r .tail
 
-  -- Memories with the same words in the cell are the same.
-  pub rewritten-same :
-      (g g′ : ℕ → ℕ) (x x′ : List ℕ)
-      → Rewritten w c g x
-      → Rewritten w c g′ x′
-      → ((f : ℕ) → f < 8 → g f ≡ g′ f)
-      → x ≡ x′
-  rewritten-same g g′ x x′ r r′ same =
-      words-ext x x′
-      (r .long ∙ sym (r′ .long))
-      (λ c′ f _ h. at c′ f h)
-      (rw (r .long) (r .tail ∙ sym (r′ .tail)))
-    where
-      at : (c′ f : ℕ) → f < 8 → word x c′ f ≡ word x′ c′ f
-      at c′ f h =
-          same? c c′
-          (λ e. rw (← e) (r .here f ∙ same f h ∙ sym (r′ .here f)))
-          (λ d. r .others c′ f d ∙ sym (r′ .others c′ f d))
-
   -- The words of a cell that an entry was put into.
   unfoldable pub enteredWord : ℕ → ℕ → ℕ → ℕ → ℕ
   enteredWord k key load f =
@@ -106,47 +87,17 @@ module _ (w : List ℕ) (c : ℕ) where
       (rewritten-put _ _ 2 0 (omega arith) h
       (rewritten-put _ _ 1 0 (omega arith) h (rewritten-put _ _ 0 0 (omega arith) h rewritten-none))))))
 
-  -- The cell is rewritten again.
-  pub rewritten-again :
-      (g g′ : ℕ → ℕ) (x y : List ℕ) → Rewritten w c g x → Rewritten x c g′ y → Rewritten w c g′ y
-  rewritten-again g g′ x y r r′ =
-      record {
-        long = r′ .long ∙ r .long;
-        tail = (rw (r .long) at (r′ .tail)) ∙ r .tail;
-        here = r′ .here;
-        others = λ c′ f d. r′ .others c′ f d ∙ r .others c′ f d;
-      }
-
--- A cell that is claimed and given back at once has the words that it had, and is on top again.
-pub claim-undone :
-    (w : List ℕ) (s : Store) (c k key load : ℕ)
-    → c < length w / 8
-    → s .free ≡ word w c 4
-    → ((f : ℕ) → f ≢ 4 → f ≢ 6 → word w c f ≡ 0)
-    → releaseWords (entered w c k key load) s c ≡ w
-unfolding enteredWord releasedWord
-claim-undone w s c k key load h top zeros =
-    rewritten-same w c _ _ _ _
-    (rewritten-again w c _ _ _ _ claimed (released-words x c s (rw (claimed .long) h)))
-    (rewritten-none w c)
-    at
-  where
-    x : List ℕ
-    x = entered w c k key load
-
-    claimed : Rewritten w c (enteredWord w c k key load) x
-    claimed = entered-words w c k key load h
-
-    none : (f : ℕ) → f ≢ 4 → f ≢ 6 → 0 ≡ word w c f
-    none f d d′ = sym (zeros f d d′)
-
-    at : (f : ℕ) → f < 8 → releasedWord x c (s .free) f ≡ word w c f
-    at zero h = none 0 (λ e. omega arith) (λ e. omega arith)
-    at (suc zero) h = none 1 (λ e. omega arith) (λ e. omega arith)
-    at (suc (suc zero)) h = none 2 (λ e. omega arith) (λ e. omega arith)
-    at (suc (suc (suc zero))) h = none 3 (λ e. omega arith) (λ e. omega arith)
-    at (suc (suc (suc (suc zero)))) h = top
-    at (suc (suc (suc (suc (suc zero))))) h = none 5 (λ e. omega arith) (λ e. omega arith)
-    at (suc (suc (suc (suc (suc (suc zero)))))) h = claimed .here 6
-    at (suc (suc (suc (suc (suc (suc (suc zero))))))) h = none 7 (λ e. omega arith) (λ e. omega arith)
-    at (suc (suc (suc (suc (suc (suc (suc (suc f)))))))) h = absurd (omega arith)
+-- A cell that was given back keeps nothing but its link and word 6.
+pub released-blank : (w : List ℕ) (c top f : ℕ) → f < 8 → f ≢ 4 → f ≢ 6 → releasedWord w c top f ≡ 0
+unfolding releasedWord
+released-blank w c top f h =
+    each-field (λ (g : ℕ). g ≢ 4 → g ≢ 6 → releasedWord w c top g ≡ 0)
+    (λ d k. refl)
+    (λ d k. refl)
+    (λ d k. refl)
+    (λ d k. refl)
+    (λ d k. absurd (d refl))
+    (λ d k. refl)
+    (λ d k. absurd (k refl))
+    (λ d k. refl)
+    f h

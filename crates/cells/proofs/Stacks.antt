@@ -11,7 +11,7 @@ use lib.Dec.{leb, ltb, eqb}
 use lib.ListN.{length}
 use borrow.Author.Tests.{ltb-true, leb-true, eqb-true, lt-ltb, le-ltb, le-leb, lt-leb, eq-eqb}
 use Rattle.cells.proofs.Cases.{test, clash, atMost?, and-true}
-use Rattle.cells.proofs.Chains.{AreCells, follow, length-follow, chain-same, chain-once}
+use Rattle.cells.proofs.Chains.{AreCells, follow, length-follow, chain-once}
 use Rattle.cells.proofs.Lists.{all-map}
 use Rattle.cells.proofs.Sums.{sumBelow-same, sumBelow-pinned, length-times, times-none, all-standing}
 use Rattle.cells.specs.Lists.{All, times, sumBelow}
@@ -112,13 +112,6 @@ module _ {w : List ℕ} {n top : ℕ} where
   pub stackTest-found : n ≤ noCell → StackRule w n top → stackTest w n top ≡ true
   unfolding stackTest
   stackTest-found h r = rw (le-leb n noCell h, ← rule-length r) (chain-walks w n top (r .cells) (r .linked) (rule-stands r))
-
-  -- The rule leaves no choice of the stack.
-  pub rule-same : n ≤ noCell → (r s : StackRule w n top) → r .cells ≡ s .cells
-  rule-same h r s =
-      chain-same (link w) top (r .cells) (s .cells) (r .linked) (s .linked)
-      (all-map (λ c k. omega arith) (r .cells) (rule-below r))
-      (all-map (λ c k. omega arith) (s .cells) (rule-below s))
 
 -- The test passes exactly if the rule holds.
 pub stackTest-exactly : (w : List ℕ) (n top : ℕ) → n ≤ noCell → (stackTest w n top ≡ true) ↔ StackRule w n top

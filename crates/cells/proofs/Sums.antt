@@ -91,7 +91,7 @@ all-standing P (x ∷ xs) h = (h x (omega (arith, times-here x x xs refl)), all-
     more y k = same? x y (λ e. omega (arith, times-here y x xs e)) (λ d. omega (arith, times-past y x xs d))
 
 -- The sum of ones.
-sumBelow-ones : (n : ℕ) → sumBelow (λ (x : ℕ). 1) n ≡ n
+pub sumBelow-ones : (n : ℕ) → sumBelow (λ (x : ℕ). 1) n ≡ n
 unfolding sumBelow
 sumBelow-ones zero = refl
 sumBelow-ones (suc n) = omega (arith, sumBelow-ones n)

@@ -172,10 +172,6 @@ module _ (t : ℕ) where
           (λ s. rw (← s) (sym (cells-gone es h u i (sym s))))
           (λ d. sym (cells-kept es h i (λ s. d (sym s))))
 
-      -- It stands in no other list.
-      pub list-only : (i : ℕ) → listOf t (e .key) ≢ i → times c (cellsAt t es i) ≡ 0
-      list-only i d = omega (arith, named-alone c k e es h u, cells-most c i (without c k es), ap (times c) (cells-kept es h i d))
-
 module _ (t i : ℕ) (e : Entry) (rest : List Entry) where
   -- The first entry of a list has its place there,
   pub standing-list : (es : List Entry) → standing t i es ≡ e ∷ rest → listOf t (e .key) ≡ i

@@ -40,7 +40,7 @@ use Rattle.dial.proofs.CellLists.{cells-most}
 use Rattle.dial.proofs.Holding.{carried-frame}
 use Rattle.dial.proofs.Turning.{standing-due, turned-lists}
 use Rattle.dial.proofs.Moving.{walked-moves}
-use Rattle.dial.proofs.Walking.{Ahead, Walked, walk-walked}
+use Rattle.dial.proofs.Walking.{ToWalk, Walked, walk-walked}
 
 -- A list with cells has at least one.
 some-length : (ws : List Entry) → hasCells (map cellOf ws) ≡ true → 1 ≤ length ws
@@ -163,7 +163,7 @@ module _ (z : State) (m : Plain) (shows : Shows (z .lists) (z .clock) (z .store)
       tick-upto 64 6 t (omega (arith, p .1, wakes-at, rw s at (wake-until (m .clock) (x .key) (p .0) (p .1))))))
 
   -- The walk starts with list i emptied: its cells stand in no list, and still link to each other.
-  ahead : Ahead (turned z (emptySlot (z .lists) i) t) (putList (cellsAt (m .clock) (m .entries)) i []) (map cellOf (m .entries))
+  ahead : ToWalk (turned z (emptySlot (z .lists) i) t) (putList (cellsAt (m .clock) (m .entries)) i []) (map cellOf (m .entries))
       (endsAt (z .lists) i .first)
       (standing (m .clock) i (m .entries))
   unfolding turned times

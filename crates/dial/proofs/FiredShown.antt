@@ -1,22 +1,22 @@
 -- The first entry of the due list is handed out: it is before all others.
 -- Assumes nothing.
-use Prim.Native.Nat.{ℕ, suc, _≤_}
+use Prim.Native.Nat.{ℕ, suc, _≤_, _<_}
 use native.Mathlib.Omega.{arith}
 use mathlib.Core.List.{List, [], _∷_, map}
 use mathlib.Core.Logic.{_≢_}
 use mathlib.Core.Option.{some}
 use mathlib.Core.Path.{_≡_, refl, sym, ap, subst, _∙_}
-use lib.ListN.{length, take, drop}
-use Rattle.cells.specs.Lists.{All, times}
+use lib.ListN.{take, drop}
+use Rattle.cells.specs.Lists.{times}
 use Rattle.cells.specs.Stack.{noCell, Chain}
 use Rattle.cells.specs.Store.{releaseWords, releaseStore}
 use Rattle.cells.specs.Words.{word}
-use Rattle.cells.proofs.Lists.{all-map, all-both, times-here}
+use Rattle.cells.proofs.Lists.{all-map}
 use Rattle.meaning.specs.Arranged.{arranged}
 use Rattle.meaning.specs.Calls.{dueBy}
 use Rattle.meaning.specs.Entries.{Entry, named, earliest}
 use Rattle.meaning.specs.Plain.{Plain, onto, frees, hands}
-use Rattle.meaning.proofs.Arranged.{arranged-same, arranged-all}
+use Rattle.meaning.proofs.Arranged.{arranged-same, arranged-all, all-arranged}
 use Rattle.meaning.proofs.Due.{due-more}
 use Rattle.meaning.proofs.Handles.{named-all}
 use Rattle.meaning.proofs.Stack.{cellOf}
@@ -26,11 +26,12 @@ use Rattle.slots.proofs.Standing.{walk-next}
 use Rattle.dial.specs.Joined.{Valid, listed, remaining, joins}
 use Rattle.dial.specs.Turns.{State, listOf, withWords, recorded, fire}
 use Rattle.dial.specs.Shows.{standing, cellsAt, Carried, Shows}
-use Rattle.dial.proofs.CellLists.{standing-here, standing-past, standing-list, standing-named, named-cell}
+use Rattle.dial.proofs.CellLists.{standing-list, standing-named, named-cell}
 use Rattle.dial.proofs.Numbers.{number-due, number-only}
 use Rattle.dial.proofs.Advances.{due-nothing}
 use Rattle.dial.proofs.DueFirst.{due-earliest}
 use Rattle.dial.proofs.Leaving.{shows-holds, leave-shows}
+use Rattle.dial.proofs.Entering.{due-idle}
 
 -- The entry before all others.
 abbrev pub soonest : Plain → Entry
@@ -47,13 +48,6 @@ first-rest : (c : ℕ) (es : List Entry) → 1 ≤ times c (map cellOf es) → e
 unfolding times earliest
 first-rest c [] h = absurd (omega arith)
 first-rest c (e ∷ es) h = refl
-
--- An empty due list is that of entries with other deadlines.
-due-absent : (t : ℕ) (es : List Entry) → standing t dueList es ≡ [] → All (λ (e : Entry). e .key ≢ t) es
-due-absent t [] h = tt
-due-absent t (x ∷ xs) h =
-    let other : listOf t (x .key) ≢ dueList = λ s. omega (arith, ap length (sym (standing-here t dueList x xs s) ∙ h)) in
-    (λ s. other (number-due t (x .key) (sym s)), due-absent t xs (sym (standing-past t dueList x xs other) ∙ h))
 
 module _ (z : State) (m : Plain) (s : Shows (z .lists) (z .clock) (z .store) m) where
   -- The due list begins with the cell of its first entry, or there is none.
@@ -85,23 +79,12 @@ module _ (z : State) (m : Plain) (s : Shows (z .lists) (z .clock) (z .store) m) 
   -- Where it is empty no entry is due.
   pub none-due : z .lists .due .first ≡ noCell → dueBy (m .clock) (arranged (m .entries)) ≡ 0
   unfolding listed
-  none-due n = go (standing (m .clock) dueList (m .entries)) refl
-    where
-      go : (es : List Entry) → standing (m .clock) dueList (m .entries) ≡ es → dueBy (m .clock) (arranged (m .entries)) ≡ 0
-      go [] h =
-          due-nothing (m .clock) (arranged (m .entries))
-          (all-map (λ e p. omega (arith, p .0, p .1 .late)) (arranged (m .entries))
-          (all-both _ _ (arranged (m .entries))
-          (arranged-all (λ (e : Entry). e .key ≢ m .clock) (m .entries) (due-absent (m .clock) (m .entries) h))
-          (s .valid .timed .deadlines)))
-      go (e ∷ rest) h =
-          let there : 1 ≤ times (e .cell) (cellsAt (m .clock) (m .entries) dueList) =
-          omega (
-            arith,
-            ap (λ (es : List Entry). times (e .cell) (map cellOf es)) h,
-            times-here (e .cell) (e .cell) (map cellOf rest) refl,
-          ) in
-          absurd (omega (arith, n, due-walk (e ∷ rest) h .0, s .lists .room, s .lists .inside dueList (e .cell) (omega arith) there))
+  none-due n =
+      due-nothing (m .clock) (arranged (m .entries))
+      (arranged-all (λ (e : Entry). m .clock < e .key) (m .entries)
+      (due-idle (z .lists) (z .clock) (z .store) m s
+      (all-arranged (λ (e : Entry). m .clock ≤ e .key) (m .entries)
+      (all-map (λ e h. h .late) (arranged (m .entries)) (s .valid .timed .deadlines))) .0 n))
 
   -- The due list is not empty.
   module _ (d : z .lists .due .first ≢ noCell) where

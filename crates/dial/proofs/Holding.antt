@@ -12,7 +12,7 @@ use Rattle.cells.specs.Stack.{Chain, link}
 use Rattle.cells.specs.Words.{word}
 use Rattle.cells.proofs.Cases.{same?}
 use Rattle.cells.proofs.Chains.{chain-links}
-use Rattle.cells.proofs.Lists.{all-map, all-both, times-here, times-past, times-append}
+use Rattle.cells.proofs.Lists.{all-map, all-both, times-here, times-past, times-append, all-append}
 use Rattle.cells.proofs.Rows.{Rewritten}
 use Rattle.cells.proofs.Sums.{all-standing}
 use Rattle.meaning.specs.Entries.{Entry, named, without}
@@ -25,7 +25,6 @@ use Rattle.slots.proofs.AllRings.{join-stands, leave-stands}
 use Rattle.slots.proofs.Changing.{stand-same, stand-frame}
 use Rattle.dial.specs.Turns.{listOf, withWords}
 use Rattle.dial.specs.Shows.{cellsAt, Carried}
-use Rattle.dial.proofs.StableKept.{all-joined}
 use Rattle.dial.proofs.Numbers.{number-most}
 use Rattle.dial.proofs.CellLists.{list-at, cells-most, cells-join, cells-leave, named-cell, named-alone}
 
@@ -157,7 +156,7 @@ module _ (l : Lists) (t top : ℕ) (es : List Entry) (free : List ℕ) (h : Hold
           blank = λ x f u d. join-free x f u ∙ h .blank x f u d;
           entries =
               all-map (λ x. carried-frame (l .words) (joined .words) x (λ f d d′. join-law .1 .fields (x .cell) f d d′)) (es ++ (e ∷ []))
-              (all-joined (Carried (l .words)) es e (h .entries) p);
+              (all-append (Carried (l .words)) es (e ∷ []) (h .entries) (p, tt));
           lists = join-law .0;
         }
 

@@ -1,20 +1,20 @@
 -- An entry leaves a model that lists, clock and store show, and its cell goes on top of the free stack.
 -- Assumes nothing.
-use Prim.Native.Nat.{ℕ, zero, suc, _/_, _<_}
+use Prim.Native.Nat.{ℕ, _/_, _<_}
 use native.Mathlib.Omega.{arith}
 use mathlib.Core.List.{List, _∷_}
 use mathlib.Core.Logic.{_≢_}
 use mathlib.Core.Option.{some}
-use mathlib.Core.Path.{_≡_, refl, sym, ap, _∙_}
+use mathlib.Core.Path.{_≡_, sym, ap, _∙_}
 use lib.Dec.{ltb}
 use lib.ListN.{length}
 use Rattle.cells.specs.Store.{releaseWords, releaseStore}
 use Rattle.cells.specs.Words.{word}
 use Rattle.cells.specs.declared.store.Store.{Store}
-use Rattle.cells.proofs.Cases.{atMost?}
+use Rattle.cells.proofs.Cases.{atMost?, same?}
 use Rattle.cells.proofs.Memory.{word-no-field}
 use Rattle.cells.proofs.Sums.{cond-bit}
-use Rattle.cells.proofs.Rows.{Rewritten, releasedWord, released-words}
+use Rattle.cells.proofs.Rows.{Rewritten, releasedWord, released-words, released-blank}
 use Rattle.meaning.specs.Entries.{Entry, named, without}
 use Rattle.meaning.specs.Plain.{Plain, frees}
 use Rattle.meaning.proofs.Arranged.{arranged-same}
@@ -63,19 +63,10 @@ holds-shows l t store m clock cells counter size h v =
       valid = v;
     }
 
--- A cell that was given back keeps nothing but its link and word 6.
-released-blank : (w : List ℕ) (c top : ℕ) → word w c 6 ≡ 0 → (f : ℕ) → f < 8 → f ≢ 4 → releasedWord w c top f ≡ 0
+-- A cell that was given back, with word 6 zero, keeps nothing but its link.
+blank-released : (w : List ℕ) (c top : ℕ) → word w c 6 ≡ 0 → (f : ℕ) → f < 8 → f ≢ 4 → releasedWord w c top f ≡ 0
 unfolding releasedWord
-released-blank w c top z zero i d = refl
-released-blank w c top z (suc zero) i d = refl
-released-blank w c top z (suc (suc zero)) i d = refl
-released-blank w c top z (suc (suc (suc zero))) i d = refl
-released-blank w c top z (suc (suc (suc (suc zero)))) i d = absurd (d refl)
-released-blank w c top z (suc (suc (suc (suc (suc zero))))) i d = refl
-released-blank w c top z (suc (suc (suc (suc (suc (suc zero)))))) i d = z
-released-blank w c top z (suc (suc (suc (suc (suc (suc (suc zero))))))) i d = refl
-released-blank w c top z (suc (suc (suc (suc (suc (suc (suc (suc f)))))))) i d =
-    absurd (omega arith)
+blank-released w c top z f i d = same? f 6 (λ e. rw e z) (λ k. released-blank w c top f i d k)
 
 module _ (l : Lists) (t : ℕ) (store : Store) (m : Plain) (s : Shows l t store m) (c k : ℕ) (e : Entry) (here : named c k (m .entries) ≡ some e) where
   -- What is held beforehand.
@@ -119,7 +110,7 @@ module _ (l : Lists) (t : ℕ) (store : Store) (m : Plain) (s : Shows l t store 
       (λ i. word-no-field (releaseWords (left .words) store c) c f i)
       (λ i.
       released .here f
-      ∙ released-blank (left .words) c (store .free) (left-word 6 (omega arith) (omega arith) ∙ carried .unowned) f i d))
+      ∙ blank-released (left .words) c (store .free) (left-word 6 (omega arith) (omega arith) ∙ carried .unowned) f i d))
 
   -- The lists that the cell has left, with the cell given back, show the model without the entry.
   pub leave-shows :

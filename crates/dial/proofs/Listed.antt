@@ -134,19 +134,6 @@ listed-joins m (refiles c k key) kept a = plain-same _ _ (joins-entries m kept (
 listed-joins m (frees c k) kept a = plain-same _ _ (joins-entries m kept (frees c k) a) refl refl refl refl
 listed-joins m (hands k t) kept a = plain-same _ _ (joins-entries m kept (hands k t) a) refl refl refl refl
 
--- Handing out one entry more is to free the first of the plain list, and then to hand out the others.
-pub hands-more : (m : Plain) (k t : ℕ) (e : Entry) (rest : List Entry) → Kept (listed m) → arranged (m .entries) ≡ e ∷ rest
-    → joins (hands (suc k) t) m ≡ joins (hands k t) (joins (frees (e .cell) (e .ticket)) m)
-unfolding listed joins remaining earliest onto times
-hands-more m k t e rest kept q =
-    let s : SameEntries (m .entries) (e ∷ rest) = rw q at (arranged-same (m .entries)) in
-    let o : Ordered (e ∷ rest) = rw q at (kept .ordered) in
-    let u : (j : ℕ) → times j (map ticketOf (e ∷ rest)) ≤ 1 = rw q at (kept .tickets) in
-    let v : (j : ℕ) → times j (map (λ (e : Entry). e .order) (e ∷ rest)) ≤ 1 = rw q at (kept .orders) in
-    let others : arranged (without (e .cell) (e .ticket) (m .entries)) ≡ rest =
-    arranged-is (without (e .cell) (e .ticket) (m .entries)) rest (rest-same (m .entries) e rest s (u (e .ticket))) (o .1) (λ j. omega (arith, v j)) in
-    plain-same _ _ (rw q) refl refl refl (rw (q, others))
-
 -- j entries taken out and then k more are j + k of them.
 remaining-add : (j k : ℕ) (es : List Entry) → remaining k (remaining j es) ≡ remaining (j + k) es
 unfolding remaining

@@ -5,11 +5,10 @@ use mathlib.Core.Bool.{Bool, true, false, cond}
 use mathlib.Core.List.{List, [], _∷_, _++_}
 use mathlib.Core.Path.{_≡_, sym, subst}
 use Rattle.cells.specs.Lists.{All}
-use Rattle.cells.proofs.Lists.{all-map, all-drop, all-both}
+use Rattle.cells.proofs.Lists.{all-map, all-drop, all-both, all-append}
 use Rattle.places.specs.Ticks.{lastTick}
-use Rattle.meaning.specs.Entries.{Entry, names, named, without, earliest}
+use Rattle.meaning.specs.Entries.{Entry, names, without, earliest}
 use Rattle.meaning.specs.Plain.{Plain, filed, refiled, Change, stays, files, refiles, frees, hands, apply}
-use Rattle.meaning.specs.Refusals.{isNone}
 use Rattle.meaning.specs.Arranged.{arranged}
 use Rattle.meaning.specs.Calls.{Call, OfWheel, outcome, result}
 use Rattle.meaning.specs.Kept.{Numbered, Kept, Within, Timed}
@@ -19,18 +18,13 @@ use Rattle.meaning.proofs.Allowed.{Allowed, allowed}
 use Rattle.meaning.proofs.Reached.{kept-apply}
 use Rattle.meaning.proofs.Timed.{timed-call}
 use Rattle.dial.specs.Joined.{listed, remaining, joins, Stable, Valid, step}
-use Rattle.dial.proofs.Listed.{listed-all, listed-named, listed-joins}
-
--- What holds of all entries and of one more holds with it at the tail.
-pub all-joined : (P : Entry → Type 0) (es : List Entry) (x : Entry) → All P es → P x → All P (es ++ (x ∷ []))
-all-joined P [] x a p = (p, tt)
-all-joined P (e ∷ es) x a p = (a .0, all-joined P es x (a .1) p)
+use Rattle.dial.proofs.Listed.{listed-all, listed-joins}
 
 -- An entry with an order number above all others joins at the tail.
 pub stable-append : (es : List Entry) (x : Entry) → All (λ (e : Entry). e .order < x .order) es → Stable es → Stable (es ++ (x ∷ []))
 stable-append [] x a s = (tt, tt)
 stable-append (e ∷ es) x a s =
-    (all-joined (λ (y : Entry). e .key ≡ y .key → e .order < y .order) es x (s .0) (λ q. a .0), stable-append es x (a .1) (s .1))
+    (all-append (λ (y : Entry). e .key ≡ y .key → e .order < y .order) es (x ∷ []) (s .0) (λ q. a .0, tt), stable-append es x (a .1) (s .1))
 
 -- An entry leaves.
 pub stable-without : (c k : ℕ) (es : List Entry) → Stable es → Stable (without c k es)
@@ -89,17 +83,7 @@ valid-step call m w v =
     valid-joins m (outcome 64 6 call (listed m) .change) v (allowed 64 6 (listed m) call)
     (timed-call 64 6 (listed m) (v .kept) (v .timed) call w)
 
--- An entry given back or handed out leaves a model by the rules.
-pub valid-frees : (m : Plain) (c k : ℕ) → Valid m → isNone (named c k (m .entries)) ≡ false → Valid (joins (frees c k) m)
-unfolding listed apply
-valid-frees m c k v live =
-    valid-joins m (frees c k) v (rw (← listed-named m (v .kept) c k) live)
-    (record {
-      clock = v .timed .clock;
-      deadlines = all-without c k (Within 64 6 (m .clock)) (arranged (m .entries)) (v .timed .deadlines);
-    })
-
--- So do the first k handed out at the clock.
+-- The first k handed out at the clock leave a model by the rules.
 pub valid-hands : (m : Plain) (k : ℕ) → Valid m → Valid (joins (hands k (m .clock)) m)
 unfolding listed apply
 valid-hands m k v =

@@ -1,6 +1,6 @@
 -- A walk along the cells of a list that stand in no list any more: each joins the list of its deadline at the clock.
 -- Assumes nothing.
-use Prim.Native.Nat.{ℕ, zero, suc, _+_, _/_, _≤_, _<_}
+use Prim.Native.Nat.{ℕ, zero, suc, _+_, _/_, _≤_, _<_, _-_}
 use native.Mathlib.Omega.{arith}
 use mathlib.Core.Bool.{cond}
 use mathlib.Core.List.{List, [], _∷_, _++_, map, append-nil, append-assoc}
@@ -8,7 +8,6 @@ use mathlib.Core.Logic.{_≢_}
 use mathlib.Core.Path.{_≡_, refl, sym, _∙_}
 use lib.Dec.{eqb}
 use lib.ListN.{length}
-use borrow.Author.Tests.{ne-eqb}
 use Rattle.cells.proofs.Lists.{all-map, times-here, times-past, times-append}
 use Rattle.cells.proofs.Sums.{all-standing}
 use Rattle.cells.proofs.Chains.{chain-links}
@@ -25,9 +24,10 @@ use Rattle.dial.specs.Turns.{listOf, State, refile, walk}
 use Rattle.dial.specs.Shows.{passing, standing, cellsAt}
 use Rattle.dial.proofs.Numbers.{number-most, due-test}
 use Rattle.dial.proofs.CellLists.{standing-here, standing-past}
+use Rattle.dial.proofs.FileSteps.{walk-stop, walk-on}
 
 -- What is to be walked: lists that stand, and from cell c on the cells of the entries ws, linked by their words 4, which stand in no list. All are cells of xs.
-pub record Ahead (z : State) (ls : ℕ → List ℕ) (xs : List ℕ) (c : ℕ) (ws : List Entry) : Type 0 where
+pub record ToWalk (z : State) (ls : ℕ → List ℕ) (xs : List ℕ) (c : ℕ) (ws : List Entry) : Type 0 where
   pub stands : Stand (z .lists) ls
   pub linked : Chain (link (z .lists .words)) c (map cellOf ws)
   pub deadlines : All (λ (e : Entry). word (z .lists .words) (e .cell) 2 ≡ e .key) ws
@@ -66,7 +66,7 @@ joined-more t e ws ls j =
     i : ℕ
     i = listOf t (e .key)
 
-module _ (z : State) (ls : ℕ → List ℕ) (xs : List ℕ) (e : Entry) (ws : List Entry) (ahead : Ahead z ls xs (e .cell) (e ∷ ws)) where
+module _ (z : State) (ls : ℕ → List ℕ) (xs : List ℕ) (e : Entry) (ws : List Entry) (ahead : ToWalk z ls xs (e .cell) (e ∷ ws)) where
   -- The entry's cell is walked,
   here : 1 ≤ times (e .cell) (map cellOf (e ∷ ws))
   here = omega (arith, times-here (e .cell) (e .cell) (map cellOf ws) refl)
@@ -138,7 +138,7 @@ module _ (z : State) (ls : ℕ → List ℕ) (xs : List ℕ) (e : Entry) (ws : L
       i = listOf (z .clock) (e .key)
 
   -- So the entries behind it are to be walked next.
-  next-ahead : Ahead (refile (e .cell) z) (joinedTo (z .clock) e ls) xs (word (z .lists .words) (e .cell) 4) ws
+  next-ahead : ToWalk (refile (e .cell) z) (joinedTo (z .clock) e ls) xs (word (z .lists .words) (e .cell) 4) ws
   next-ahead =
       record {
         stands = joins .0;
@@ -160,17 +160,6 @@ module _ (z : State) (ls : ℕ → List ℕ) (xs : List ℕ) (e : Entry) (ws : L
             (λ k v. ahead .listed k x v h) u;
       }
 
--- A walk ends where there is no cell,
-walk-end : (k : ℕ) (z : State) → walk k noCell z ≡ z
-unfolding walk
-walk-end zero z = refl
-walk-end (suc k) z = refl
-
--- and goes on where there is one.
-walk-on : (k c : ℕ) (z : State) → c ≢ noCell → walk (suc k) c z ≡ walk k (word (z .lists .words) c 4) (refile c z)
-unfolding walk
-walk-on k c z d = rw (ne-eqb c noCell d)
-
 -- Nothing to walk.
 walked-none : (z : State) (ls : ℕ → List ℕ) (xs : List ℕ) → Stand (z .lists) ls → Walked z z ls xs []
 unfolding standing passing sumOf
@@ -188,7 +177,7 @@ walked-none z ls xs s =
 -- The first entry, and then the others.
 walked-more :
     (z z′ : State) (ls : ℕ → List ℕ) (xs : List ℕ) (e : Entry) (ws : List Entry)
-    → Ahead z ls xs (e .cell) (e ∷ ws)
+    → ToWalk z ls xs (e .cell) (e ∷ ws)
     → Walked (refile (e .cell) z) z′ (joinedTo (z .clock) e ls) xs ws
     → Walked z z′ ls xs (e ∷ ws)
 unfolding refile sumOf
@@ -213,16 +202,17 @@ walked-more z z′ ls xs e ws ahead more =
 -- The walk of the entries that are to be walked, with fuel for as many.
 pub walk-walked :
     (ws : List Entry) (k c : ℕ) (z : State) (ls : ℕ → List ℕ) (xs : List ℕ)
-    → Ahead z ls xs c ws
+    → ToWalk z ls xs c ws
     → length ws ≤ k
     → Walked z (walk k c z) ls xs ws
-walk-walked [] k c z ls xs ahead h = rw (ahead .linked, walk-end k z) (walked-none z ls xs (ahead .stands))
+walk-walked [] k c z ls xs ahead h = rw (ahead .linked, walk-stop k noCell z refl) (walked-none z ls xs (ahead .stands))
 walk-walked (e ∷ ws) zero c z ls xs ahead h = absurd (omega arith)
 walk-walked (e ∷ ws) (suc k) c z ls xs ahead h =
     let first : c ≡ e .cell = ahead .linked .0 in
-    let this : Ahead z ls xs (e .cell) (e ∷ ws) = rw first at ahead in
+    let this : ToWalk z ls xs (e .cell) (e ∷ ws) = rw first at ahead in
     let cell : e .cell ≢ noCell = λ s. omega (arith, this .inside (e .cell) (here z ls xs e ws this), this .stands .room) in
-    rw (first, walk-on k (e .cell) z cell)
+    let less : suc k - 1 ≡ k = omega arith in
+    rw (first, walk-on (suc k) (e .cell) z (omega arith) cell refl refl, less)
     (walked-more z (walk k (word (z .lists .words) (e .cell) 4) (refile (e .cell) z)) ls xs e ws this
     (walk-walked ws k (word (z .lists .words) (e .cell) 4) (refile (e .cell) z) (joinedTo (z .clock) e ls) xs
     (next-ahead z ls xs e ws this)

@@ -17,9 +17,10 @@ use Rattle.heap.specs.declared.seats.Seat.{Seat}
 use Rattle.heap.specs.Seats.{ranked, seatAt, sooner, soonest, firstChild, mayRise, maySink}
 use Rattle.heap.specs.Stands.{Ranks}
 use Rattle.meaning.proofs.Behind.{behind-trans}
-use Rattle.heap.proofs.Positions.{parent-below, parent-of}
+use Rattle.meaning.proofs.ByPosition.{all-at}
+use Rattle.heap.proofs.Positions.{parent-below, first-behind}
 use Rattle.heap.proofs.Children.{earliest-among, earliest-filled, child-from, child-filled}
-use Rattle.heap.proofs.Seating.{Hole, all-at}
+use Rattle.heap.proofs.Seating.{Hole}
 
 -- Who stands at a position of a heap.
 abbrev pub seatOf : List Entry → ℕ → Seat
@@ -96,7 +97,7 @@ module _ (h : List Entry) where
     unfolding seatAt
     seat-known p l n =
         let e = o .but .table p l n in
-        let r = all-at (Ranks w) h p l (o .ranks) in
+        let r = all-at (Ranks w) h (o .ranks) p l in
         rw (e, r .key, r .order)
 
     -- The earliest of one and of the m positions from q on, none of them the hole.
@@ -114,10 +115,6 @@ module _ (h : List Entry) where
         (soonest-known m p (suc p) (omega arith) (omega arith) ∙ ap (seatOf h) (chosen-first m p l))
 
     module _ (d : ℕ) (some : 1 ≤ d) where
-      -- The first child's position is behind the hole.
-      child-behind : i < d * i + 1
-      child-behind = omega (arith, parent-of d some i (d * i + 1) (omega arith) (omega arith), parent-below d (d * i + 1) (omega arith))
-
       -- The earliest child of the hole, where it has one.
       pub child-known : d * i + 1 < length h → firstChild d (length h) w (d * i + 1) ≡ seatOf h (child d i h)
       unfolding firstChild child
@@ -128,11 +125,11 @@ module _ (h : List Entry) where
           (λ e.
           let cut : n < first + d = ltb-true n (first + d) e in
           rw e
-          (among-known (n - first - 1) first (omega arith) child-behind
+          (among-known (n - first - 1) first (omega arith) (first-behind d some i)
           ∙ ap (seatOf h) (sym (earliest-short (n - first - 1) (d - 1) first (omega arith) (omega arith)))))
           (λ e.
           let full : first + d ≤ n = ltb-false n (first + d) e in
-          rw e (among-known (d - 1) first (omega arith) child-behind))
+          rw e (among-known (d - 1) first (omega arith) (first-behind d some i)))
 
       -- The words say whether an entry sinks from the hole.
       pub sink-known : maySink d (length h) (at h i .key) (at h i .order) i w ≡ earlier h (child d i h) i

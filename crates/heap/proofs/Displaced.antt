@@ -1,20 +1,20 @@
 -- What a rise or a sink displaces: nothing but the entries on its path, and all of those.
 -- Assumes nothing.
-use Prim.Native.Nat.{ℕ, zero, suc, _≤_, _<_}
+use Prim.Native.Nat.{ℕ, _≤_, _<_}
 use native.Mathlib.Omega.{arith}
 use mathlib.Core.List.{List, [], _∷_, map}
 use mathlib.Core.Path.{_≡_, refl, sym, ap, _∙_}
-use lib.ListN.{length, getD}
+use lib.ListN.{length}
 use Rattle.cells.specs.Lists.{All, times}
 use Rattle.cells.proofs.Cases.{same?}
 use Rattle.cells.proofs.Lists.{times-here, times-past}
 use Rattle.cells.proofs.Distinct.{all-times}
 use Rattle.meaning.specs.Entries.{Entry}
-use Rattle.meaning.specs.Heap.{at, exchange, rise, sink, settle}
+use Rattle.meaning.specs.Heap.{at, exchange, rise, settle}
 use Rattle.meaning.proofs.ByPosition.{one-position}
 use Rattle.heap.proofs.Permutes.{times-exchange}
 use Rattle.heap.proofs.Exchanges.{length-exchange, at-exchange-first, at-exchange-second, at-exchange-other}
-use Rattle.heap.proofs.Paths.{along, end, risen, sunk, settled, Path, rise-along, sink-along, settle-along, risen-path, sunk-path, settled-path}
+use Rattle.heap.proofs.Paths.{along, risen, settled, Path, rise-along, settle-along}
 
 -- Two heaps of one length have the same entries but at the positions of a list.
 pub record SameBut (ps : List ℕ) (h after : List Entry) : Type 0 where
@@ -55,36 +55,9 @@ times-along f k p (q ∷ qs) h a =
 pub rise-same : (d k p : ℕ) (h : List Entry) → SameBut (p ∷ risen d k p h) h (rise d k p h)
 rise-same d k p h = rw (rise-along d k p h) (along-same p (risen d k p h) h)
 
--- So does a sink.
-pub sink-same : (d k p : ℕ) (h : List Entry) → SameBut (p ∷ sunk d k p h) h (sink d k p h)
-sink-same d k p h = rw (sink-along d k p h) (along-same p (sunk d k p h) h)
-
--- So does settling.
+-- So with settling.
 pub settle-same : (d p : ℕ) (h : List Entry) → SameBut (p ∷ settled d p h) h (settle d p h)
 settle-same d p h = rw (settle-along d p h) (along-same p (settled d p h) h)
-
--- The entry that goes along a path stands at its end.
-pub along-end : (p : ℕ) (ps : List ℕ) (h : List Entry) → All (λ (q : ℕ). q < length h) ps
-    → at (along p ps h) (end p ps) ≡ at h p
-unfolding along end
-along-end p [] h a = refl
-along-end p (q ∷ qs) h a =
-    let rest : All (λ (r : ℕ). r < length (exchange p q h)) qs = rw (length-exchange p q h) (a .1) in
-    along-end q qs (exchange p q h) rest ∙ at-exchange-second p q h (a .0)
-
--- An entry that rises stands at the end of its path.
-pub rise-end : (d k p : ℕ) (h : List Entry) → p < length h → at (rise d k p h) (end p (risen d k p h)) ≡ at h p
-rise-end d k p h i = rw (rise-along d k p h) (along-end p (risen d k p h) h (risen-path d k p h i .filled .1))
-
--- An entry that sinks stands at the end of its path.
-pub sink-end : (d : ℕ) → 1 ≤ d → (k p : ℕ) (h : List Entry) → p < length h
-    → at (sink d k p h) (end p (sunk d k p h)) ≡ at h p
-sink-end d some k p h i = rw (sink-along d k p h) (along-end p (sunk d k p h) h (sunk-path d some k p h i .filled .1))
-
--- An entry that settles stands at the end of its path.
-pub settle-end : (d : ℕ) → 1 ≤ d → (p : ℕ) (h : List Entry) → p < length h
-    → at (settle d p h) (end p (settled d p h)) ≡ at h p
-settle-end d some p h i = rw (settle-along d p h) (along-end p (settled d p h) h (settled-path d some p h i .filled .1))
 
 -- The entry at r came from another position of the path.
 pub record Came (path : List ℕ) (h after : List Entry) (r : ℕ) : Type 0 where
@@ -131,34 +104,6 @@ unfolding along
 along-first p q qs h t =
     along-same q qs (exchange p q h) .elsewhere p (path-rest (length h) p q qs t .1)
     ∙ at-exchange-first p q h (t .filled .0)
-
--- What stands at an index of a list stands in the list.
-index-stands : (ps : List ℕ) (i : ℕ) → i < length ps → 1 ≤ times (getD ps i 0) ps
-unfolding times
-index-stands [] i h = absurd (omega arith)
-index-stands (p ∷ ps) zero h = omega (arith, times-here p p ps refl)
-index-stands (p ∷ ps) (suc i) h = omega (arith, index-stands ps i (omega arith))
-
--- Each entry that is passed stands one position of the path earlier.
-pub along-shift : (p : ℕ) (ps : List ℕ) (h : List Entry) → Path (length h) p ps
-    → (i : ℕ) → i < length ps → at (along p ps h) (getD (p ∷ ps) i 0) ≡ at h (getD ps i 0)
-unfolding along
-along-shift p [] h t i j = absurd (omega arith)
-along-shift p (q ∷ qs) h t zero j = along-first p q qs h t
-along-shift p (q ∷ qs) h t (suc i) j =
-    shifted (path-rest (length h) p q qs t) (λ on. along-shift q qs (exchange p q h) on i (omega arith))
-  where
-    shifted : Path (length h) q qs × (times p (q ∷ qs) ≡ 0)
-        → (Path (length (exchange p q h)) q qs → at (along q qs (exchange p q h)) (getD (q ∷ qs) i 0) ≡ at (exchange p q h) (getD qs i 0))
-        → at (along p (q ∷ qs) h) (getD (q ∷ qs) i 0) ≡ at h (getD qs i 0)
-    shifted rest later =
-        let x : ℕ = getD qs i 0 in
-        let stands : 1 ≤ times x qs = index-stands qs i (omega arith) in
-        let off : x ≡ q → ⊥ =
-        λ e. omega (arith, rest .0 .apart x, times-here x q qs (sym e)) in
-        let past : times x (q ∷ qs) ≡ times x qs = times-past x q qs (λ e. off (sym e)) in
-        let out : x ≡ p → ⊥ = λ e. omega (arith, rest .1, ap (λ (y : ℕ). times y (q ∷ qs)) e) in
-        later (rw (length-exchange p q h) (rest .0)) ∙ at-exchange-other p q h x out off
 
 came-first : (p q : ℕ) (qs : List ℕ) (h : List Entry) → Path (length h) p (q ∷ qs)
     → (r : ℕ) → p ≡ r → Came (p ∷ (q ∷ qs)) h (along q qs (exchange p q h)) r

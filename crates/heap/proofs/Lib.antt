@@ -7,7 +7,6 @@ pub mod Sinking
 pub mod HeapKeeps
 pub mod Root
 pub mod Carrying
-pub mod Differing
 pub mod Permutes
 pub mod Levels
 pub mod Paths
@@ -15,7 +14,6 @@ pub mod Displaced
 pub mod Moves
 pub mod MovesBound
 pub mod RemoveMoves
-pub mod StepBounds
 pub mod Seating
 pub mod Choosing
 pub mod Walks

@@ -15,10 +15,10 @@ use Rattle.cells.proofs.Lists.{times-here, times-past}
 use Rattle.cells.proofs.Sums.{sumBelow-same, sumBelow-most, length-times}
 use Rattle.cells.proofs.Distinct.{all-times}
 use Rattle.meaning.specs.Entries.{Entry}
-use Rattle.meaning.specs.Heap.{at, rise, sink, settle, holds, movedFrom, heapMoves}
+use Rattle.meaning.specs.Heap.{at, holds, movedFrom, heapMoves}
 use Rattle.meaning.proofs.Handles.{ticketOf}
 use Rattle.meaning.proofs.ByPosition.{at-stands}
-use Rattle.heap.proofs.Paths.{along, risen, sunk, settled, Path, rise-along, sink-along, settle-along, risen-path, sunk-path, settled-path}
+use Rattle.heap.proofs.Paths.{along, Path}
 use Rattle.heap.proofs.Displaced.{along-same, times-along, along-differs}
 
 -- The tickets of the entries differ.
@@ -124,12 +124,6 @@ unfoldable pub displaced : ℕ → List ℕ → List ℕ
 displaced p [] = []
 displaced p (q ∷ qs) = p ∷ (q ∷ qs)
 
--- At most the steps and one are displaced.
-pub displaced-most : (p : ℕ) (ps : List ℕ) → length (displaced p ps) ≤ suc (length ps)
-unfolding displaced
-displaced-most p [] = omega arith
-displaced-most p (q ∷ qs) = omega arith
-
 -- But for where the path begins, those positions are those that it goes to.
 pub displaced-rest : (r p : ℕ) (ps : List ℕ) → (p ≡ r → ⊥) → times r (displaced p ps) ≡ times r ps
 unfolding displaced
@@ -161,25 +155,3 @@ along-counts p (s ∷ ss) g t u e r q =
     let away : at after r .ticket ≡ e .ticket → ⊥ = λ w. along-differs ticketOf p s ss g t u r on (w ∙ q) in
     let one : times r path ≡ 1 = omega (arith, t .apart r) in
     moved-away e r after stands away ∙ sym (count ∙ one))
-
--- A path of no step displaces no entry, and any other exactly those that stand on it.
-pub along-moves : (p : ℕ) (ps : List ℕ) (g : List Entry) → Path (length g) p ps → Differ g
-    → heapMoves g (along p ps g) ≡ length (displaced p ps)
-along-moves p ps g t u =
-    moves-exactly g (along p ps g) (displaced p ps) (displaced-filled (length g) p ps (t .filled))
-    (λ r i. along-counts p ps g t u (at g r) r refl)
-
--- A rise moves nothing if it makes no step, else one entry more than it makes steps.
-pub rise-moves : (d k p : ℕ) (h : List Entry) → p < length h → Differ h
-    → heapMoves h (rise d k p h) ≡ length (displaced p (risen d k p h))
-rise-moves d k p h i u = rw (rise-along d k p h) (along-moves p (risen d k p h) h (risen-path d k p h i) u)
-
--- So with a sink.
-pub sink-moves : (d : ℕ) → 1 ≤ d → (k p : ℕ) (h : List Entry) → p < length h → Differ h
-    → heapMoves h (sink d k p h) ≡ length (displaced p (sunk d k p h))
-sink-moves d some k p h i u = rw (sink-along d k p h) (along-moves p (sunk d k p h) h (sunk-path d some k p h i) u)
-
--- So with settling.
-pub settle-moves : (d : ℕ) → 1 ≤ d → (p : ℕ) (h : List Entry) → p < length h → Differ h
-    → heapMoves h (settle d p h) ≡ length (displaced p (settled d p h))
-settle-moves d some p h i u = rw (settle-along d p h) (along-moves p (settled d p h) h (settled-path d some p h i) u)

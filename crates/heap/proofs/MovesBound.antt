@@ -4,7 +4,7 @@ use Prim.Native.Nat.{ℕ, suc, _≤_, _<_}
 use native.Mathlib.Omega.{arith}
 use mathlib.Core.List.{List, [], _∷_, _++_, map}
 use mathlib.Core.Path.{_≡_, sym, ap, _∙_}
-use lib.ListN.{length, set, length-append, length-set, List·getD-append}
+use lib.ListN.{length, set, length-append, length-set}
 use lib.Seq.{getD-set-same, getD-set-other, map-set-same}
 use Rattle.cells.specs.Lists.{times}
 use Rattle.cells.proofs.Cases.{same?}
@@ -12,6 +12,7 @@ use Rattle.cells.proofs.Lists.{times-past, times-append}
 use Rattle.meaning.specs.Entries.{Entry, nobody}
 use Rattle.meaning.specs.Heap.{at, heapPut, heapRekey, heapMoves, levels}
 use Rattle.meaning.proofs.Handles.{ticketOf, map-append}
+use Rattle.heap.proofs.Exchanges.{at-append}
 use Rattle.heap.proofs.Levels.{steps-levels}
 use Rattle.heap.proofs.Paths.{risen, settled, Path, rise-along, settle-along, risen-steps, risen-above, risen-path, settled-path, settled-steps}
 use Rattle.heap.proofs.Displaced.{rise-same, settle-same}
@@ -26,11 +27,6 @@ abbrev pub rekeyPath : ℕ → ℕ → Entry → List Entry → List ℕ
 rekeyPath d p e h = settled d p (set h p e)
 
 module _ (d : ℕ) (e : Entry) (h : List Entry) where
-  -- In front of the new entry stands what stood there.
-  at-before : (r : ℕ) → r < length h → at (h ++ (e ∷ [])) r ≡ at h r
-  unfolding at
-  at-before r i = List·getD-append h (e ∷ []) nobody r i
-
   -- The moves of a put are at most the steps of the new entry.
   pub put-moves-steps : heapMoves h (heapPut d e h) ≤ length (putPath d e h)
   unfolding heapPut
@@ -41,7 +37,7 @@ module _ (d : ℕ) (e : Entry) (h : List Entry) where
       (ap ticketOf
       (rise-same d (length h) (length h) (h ++ (e ∷ [])) .elsewhere r
       (times-past r (length h) (putPath d e h) (λ q. omega arith) ∙ z)
-      ∙ at-before r i)))
+      ∙ at-append h e r i)))
 
   -- The moves of a put are at most the levels after it.
   pub put-moves-levels : heapMoves h (heapPut d e h) ≤ levels d (suc (length h))
@@ -60,7 +56,7 @@ module _ (d : ℕ) (e : Entry) (h : List Entry) where
       moves-exactly h (heapPut d e h) ps (risen-above d n n g)
       (λ r i.
       rw (rise-along d n n g)
-      (along-counts n ps g (risen-path d n n g inside) differ (at h r) r (ap ticketOf (sym (at-before r i)))
+      (along-counts n ps g (risen-path d n n g inside) differ (at h r) r (ap ticketOf (sym (at-append h e r i)))
       ∙ displaced-rest r n ps (λ q. omega arith)))
     where
       n : ℕ

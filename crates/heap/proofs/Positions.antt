@@ -1,9 +1,9 @@
 -- Where parents and children stand.
 -- Assumes nothing.
 use Prim.Native.Nat.{ℕ, _+_, _-_, _*_, _≤_, _<_}
-use native.Mathlib.Nat.{div-le-self, div-add-mod, mod-lt, div-eq-of-lt-le, mul-comm, mul-add}
+use native.Mathlib.Nat.{div-le-self, div-add-mod, mod-lt, div-eq-of-lt-le, mul-comm, mul-add, mul-le-mul-right}
 use native.Mathlib.Omega.{arith}
-use mathlib.Core.Logic.{_≢_, _↔_}
+use mathlib.Core.Logic.{_↔_}
 use mathlib.Core.Path.{_≡_}
 use Rattle.meaning.specs.Heap.{parent}
 
@@ -12,16 +12,11 @@ pub parent-below : (d p : ℕ) → 0 < p → parent d p < p
 unfolding parent
 parent-below d p h = omega (arith, div-le-self (p - 1) d)
 
--- A parent stands at another position.
-pub parent-other : (d p : ℕ) → 0 < p → parent d p ≢ p
-parent-other d p h = omega (arith, parent-below d p h)
-
--- Position 0 is its own parent.
-pub parent-root : (d : ℕ) → parent d 0 ≡ 0
-unfolding parent
-parent-root d = omega (arith, div-le-self (0 - 1) d)
-
 module _ (d : ℕ) (some : 0 < d) where
+  -- The first child stands behind.
+  pub first-behind : (p : ℕ) → p < d * p + 1
+  first-behind p = omega (arith, mul-le-mul-right p some)
+
   -- Each position stands among the d children of its parent.
   pub child-range : (q : ℕ) → 0 < q → (d * parent d q + 1 ≤ q) × (q ≤ d * parent d q + d)
   unfolding parent

@@ -17,6 +17,7 @@ use Rattle.cells.proofs.Places.{put-length, put-same, put-other-field, put-othe
 use Rattle.meaning.specs.Entries.{Entry}
 use Rattle.meaning.specs.Heap.{at, settle, heapPut, heapRemove, heapRekey, heapMoves}
 use Rattle.meaning.proofs.Handles.{ticketOf}
+use Rattle.meaning.proofs.ByPosition.{all-at}
 use Rattle.heap.specs.Seats.{Walk, settleWalk, standing, onceMore, inReach, enterWalk, refillWalk, vacateWalk, countSelf, resettleWalk}
 use Rattle.heap.specs.Stands.{cellsOf, Stands, StandsBut, Ranks, Apart, Reseated}
 use Rattle.heap.proofs.Exchanges.{at-set, at-take, at-append-last}
@@ -24,7 +25,7 @@ use Rattle.heap.proofs.Permutes.{times-fill}
 use Rattle.heap.proofs.Moves.{Differ, displaced}
 use Rattle.heap.proofs.MovesBound.{put-moves, rekey-moves}
 use Rattle.heap.proofs.RemoveMoves.{refilled, removePath, remove-last, remove-inner, remove-last-moves, remove-moves, refilled-length, refilled-other}
-use Rattle.heap.proofs.Seating.{all-at, all-set}
+use Rattle.heap.proofs.Seating.{all-set}
 use Rattle.heap.proofs.Walks.{Comes, rise-comes, settle-comes}
 
 -- An arity of 1 to 8, and a heap of at most 4,096 entries.
@@ -41,7 +42,7 @@ comes-count q c = record { stands = c .stands; reseated = c .reseated; counted =
 pub all-refilled : (P : Entry → Type 0) (p : ℕ) (h : List Entry) → p < length h → All P h → All P (refilled p h)
 all-refilled P p h l a =
     let n : ℕ = length h - 1 in
-    all-set P (take n h) p (at h n) (all-at P h n (omega arith) a) (all-take P n h a)
+    all-set P (take n h) p (at h n) (all-at P h a n (omega arith)) (all-take P n h a)
 
 -- In such a heap every filled position is in reach.
 in-reach : (d n p : ℕ) → Sized d n → p < n → inReach d n p ≡ true
@@ -59,7 +60,7 @@ enter-comes d e h w z b r a u =
     let g : List Entry = h ++ (e ∷ []) in
     let last : at g n ≡ e = at-append-last h e in
     let inside : n < length g = omega (arith, length-append h (e ∷ [])) in
-    let own : Ranks w e = rw last at (all-at (Ranks w) g n inside r) in
+    let own : Ranks w e = rw last at (all-at (Ranks w) g r n inside) in
     rw (in-reach d (suc n) n z (omega arith), own .key, own .order)
     (comes-count (omega (arith, put-moves d e h u))
     (rw last at (rise-comes d n n 0 g w inside b r a)))

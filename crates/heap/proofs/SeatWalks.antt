@@ -1,7 +1,7 @@
 -- The walks over lent words by cases: one law for each way out of a function or turn of a loop, from what its calls answer.
 -- Assumes nothing.
 use Prim.Native.Nat.{ℕ, zero, suc, _+_, _*_, _-_, _≤_, _<_}
-use native.Mathlib.Nat.{mul-le-mul, mul-le-mul-right}
+use native.Mathlib.Nat.{mul-le-mul}
 use native.Mathlib.Numerals.{add-one}
 use native.Mathlib.Omega.{arith}
 use mathlib.Core.Bool.{Bool, true, false}
@@ -13,6 +13,7 @@ use Rattle.cells.proofs.Cases.{test, and-true}
 use Rattle.cells.specs.Words.{word, putWord}
 use Rattle.meaning.specs.Heap.{parent}
 use Rattle.heap.proofs.Permutes.{by-arms, parent-atMost}
+use Rattle.heap.proofs.Positions.{first-behind}
 use Rattle.heap.proofs.SeatSteps.{child-within, reach-many}
 use Rattle.heap.specs.declared.seats.Seat.{Seat}
 use Rattle.heap.specs.Seats.{
@@ -111,15 +112,11 @@ child-fits d n p a b e = omega (arith, mul-le-mul {m₁ = p} {m₂ = 4096} a (om
 
 -- Where the earliest child of p stands.
 module _ (d n : ℕ) (some : 1 ≤ d) where
-  -- The first child stands behind.
-  behind-first : (p : ℕ) → p < d * p + 1
-  behind-first p = omega (arith, mul-le-mul-right p some)
-
-  -- It stands behind p, and in the heap.
+  -- Behind p, and in the heap.
   pub child-behind : (p : ℕ) (w : List ℕ) (q : Seat) → d * p + 1 < n → q ≡ firstChild d n w (d * p + 1) → (p < q .position) × (q .position < n)
   child-behind p w q h e =
       let within = child-within d n w (d * p + 1) some h in
-      rw e (omega (arith, behind-first p), within .1)
+      rw e (omega (arith, first-behind d some p), within .1)
 
 -- Whether an entry sinks from p.
 module _ (d n key order : ℕ) where
@@ -166,8 +163,8 @@ module _ (d n : ℕ) (some : 1 ≤ d) (key order c : ℕ) where
   pub sink-fuel : (j k p s : ℕ) (w : List ℕ) → n ≤ p + j → n ≤ p + k
       → sinkWalk d n key order c j p s w ≡ sinkWalk d n key order c k p s w
   unfolding sinkWalk
-  sink-fuel zero k p s w a b = sym (sink-stays d n key order c k p s w (may-sink-out d n key order p w (omega (arith, behind-first d n some p))))
-  sink-fuel (suc j) zero p s w a b = sink-stays d n key order c (suc j) p s w (may-sink-out d n key order p w (omega (arith, behind-first d n some p)))
+  sink-fuel zero k p s w a b = sym (sink-stays d n key order c k p s w (may-sink-out d n key order p w (omega (arith, first-behind d some p))))
+  sink-fuel (suc j) zero p s w a b = sink-stays d n key order c (suc j) p s w (may-sink-out d n key order p w (omega (arith, first-behind d some p)))
   sink-fuel (suc j) (suc k) p s w a b =
       let q : Seat = firstChild d n w (d * p + 1) in
       test (maySink d n key order p w)

@@ -13,7 +13,7 @@ use Rattle.cells.proofs.Lists.{all-map}
 use Rattle.cells.proofs.Places.{put-length, put-same, put-other-field, put-other-cell, put-tail}
 use Rattle.meaning.specs.Entries.{Entry}
 use Rattle.meaning.specs.Heap.{at, exchange}
-use Rattle.meaning.proofs.ByPosition.{at-stands, one-position}
+use Rattle.meaning.proofs.ByPosition.{all-at, at-stands, one-position}
 use Rattle.heap.specs.Seats.{seated}
 use Rattle.heap.specs.Stands.{Stands, StandsBut, Ranks, Apart, Reseated, cellsOf}
 use Rattle.heap.proofs.Exchanges.{Exchanged, exchanged, length-exchange}
@@ -26,13 +26,6 @@ pub record Hole (i : ℕ) (w : List ℕ) (h : List Entry) : Type 0 where
   pub apart : Apart w h
 
 module _ (P : Entry → Type 0) where
-  -- What holds of all entries holds of that at a filled position.
-  pub all-at : (h : List Entry) (p : ℕ) → p < length h → All P h → P (at h p)
-  unfolding at
-  all-at [] p l a = absurd (omega arith)
-  all-at (x ∷ xs) zero l a = a .0
-  all-at (x ∷ xs) (suc p) l a = all-at xs p (omega arith) (a .1)
-
   -- An entry written over another needs what all have.
   pub all-set : (h : List Entry) (p : ℕ) (e : Entry) → P e → All P h → All P (set h p e)
   all-set [] p e m a = tt
@@ -42,7 +35,7 @@ module _ (P : Entry → Type 0) where
   -- An exchange keeps what holds of all entries.
   pub all-exchange : (p q : ℕ) (h : List Entry) → p < length h → q < length h → All P h → All P (exchange p q h)
   unfolding exchange
-  all-exchange p q h l k a = all-set (set h p (at h q)) q (at h p) (all-at h p l a) (all-set h p (at h q) (all-at h q k a) a)
+  all-exchange p q h l k a = all-set (set h p (at h q)) q (at h p) (all-at P h a p l) (all-set h p (at h q) (all-at P h a q k) a)
 
 module _ (w : List ℕ) (p c : ℕ) where
   -- A seat taken keeps the number of words.
@@ -157,7 +150,7 @@ hole-fills i h w l o = record { table = table′; place = place′ }
     place′ : (p : ℕ) → p < length h → word (seated w i c) (at h p .cell) 5 ≡ p
     place′ p m =
         same? p i
-        (λ e. rw e (seated-place w i c (all-at (λ (x : Entry). x .cell < length w / 8) h i l (o .apart .inside))))
+        (λ e. rw e (seated-place w i c (all-at (λ (x : Entry). x .cell < length w / 8) h (o .apart .inside) i l)))
         (λ n. seated-place-other w i c (at h p .cell) (cells-differ w h (o .apart) p i m l n) ∙ o .but .place p m n)
 
 module _ (i q : ℕ) (h : List Entry) (w : List ℕ) (l : i < length h) (k : q < length h) (o : Hole i w h) where
@@ -177,7 +170,7 @@ module _ (i q : ℕ) (h : List Entry) (w : List ℕ) (l : i < length h) (k : q <
       place′ : (p : ℕ) → p < length g → p ≢ q → word (seated w i c) (at g p .cell) 5 ≡ p
       place′ p m d =
           same? p i
-          (λ e. rw (e, x .first) (seated-place w i c (all-at (λ (y : Entry). y .cell < length w / 8) h q k (o .apart .inside))))
+          (λ e. rw (e, x .first) (seated-place w i c (all-at (λ (y : Entry). y .cell < length w / 8) h (o .apart .inside) q k)))
           (λ f.
           let other = cells-differ w h (o .apart) p q (omega arith) k d in
           rw (x .other p f d) (seated-place-other w i c (at h p .cell) other ∙ o .but .place p (omega arith) f))

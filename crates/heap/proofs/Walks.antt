@@ -10,6 +10,7 @@ use Rattle.cells.specs.Lists.{All}
 use Rattle.cells.proofs.Cases.{test}
 use Rattle.meaning.specs.Entries.{Entry}
 use Rattle.meaning.specs.Heap.{at, parent, exchange, early, rise, earlier, child, sink, settle}
+use Rattle.meaning.proofs.ByPosition.{all-at}
 use Rattle.heap.specs.Seats.{Walk, seated, riseWalk, sinkWalk, settleWalk}
 use Rattle.heap.specs.Stands.{Stands, StandsBut, Ranks, Apart, Reseated}
 use Rattle.heap.proofs.Positions.{parent-below}
@@ -17,7 +18,7 @@ use Rattle.heap.proofs.Exchanges.{length-exchange, at-exchange-second}
 use Rattle.heap.proofs.Permutes.{early-above, earlier-filled}
 use Rattle.heap.proofs.Children.{child-from, child-below}
 use Rattle.heap.proofs.Paths.{risen, sunk, settled}
-use Rattle.heap.proofs.Seating.{Hole, all-at, seat-reseats, reseats-on, cells-exchange, hole-fills, hole-steps}
+use Rattle.heap.proofs.Seating.{Hole, seat-reseats, reseats-on, cells-exchange, hole-fills, hole-steps}
 use Rattle.heap.proofs.Choosing.{seat-known, child-known, rise-known, sink-known}
 
 -- The walk in the words w comes to the heap g, in so many steps.
@@ -101,7 +102,7 @@ pub settle-comes : (d i : ℕ) (h : List Entry) (w : List ℕ) → 1 ≤ d → i
 unfolding settle settled settleWalk
 settle-comes d i h w some l b r a =
     let o : Hole i w h = record { but = b; ranks = r; apart = a } in
-    let m = all-at (Ranks w) h i l r in
+    let m = all-at (Ranks w) h r i l in
     test (early d i h)
     (λ e. rw (m .key, m .order, rise-known h i w o d l, e) (rw zero-add at (rise-walks d i i 0 h w l o)))
     (λ e. rw (m .key, m .order, rise-known h i w o d l, e) (rw zero-add at (sink-walks d some (length h) i 0 h w l o)))

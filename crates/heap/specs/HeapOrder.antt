@@ -27,7 +27,3 @@ pub record MayRise (d : ℕ) (h : List Entry) (i : ℕ) : Type 0 where
 pub record MaySink (d : ℕ) (h : List Entry) (i : ℕ) : Type 0 where
   pub but : InOrderBut d h i
   pub above : 0 < i → before (at h i) (at h (parent d i)) ≡ false
-
--- No two positions hold the same order number.
-pub record OrdersDiffer (h : List Entry) : Type 0 where
-  pub differ : (p q : ℕ) → p < length h → q < length h → p ≢ q → at h p .order ≢ at h q .order

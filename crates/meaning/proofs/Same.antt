@@ -10,10 +10,10 @@ use lib.ListN.{length}
 use borrow.Author.Tests.{eq-eqb}
 use Rattle.cells.specs.Lists.{times}
 use Rattle.cells.proofs.Lists.{times-here, times-past}
-use Rattle.cells.proofs.Cases.{same?, test, clash}
+use Rattle.cells.proofs.Cases.{same?}
 use Rattle.meaning.specs.Entries.{Entry, names, named, without}
 use Rattle.meaning.specs.Arranged.{SameEntries}
-use Rattle.meaning.proofs.Handles.{ticketOf, names-own, named-none, named-names, named-absent, times-without, named-without-own, named-without-other}
+use Rattle.meaning.proofs.Handles.{ticketOf, named-none, named-names, times-without, named-without-own}
 
 -- An entry of five words.
 abbrev made : (key order cell ticket load : ℕ) → Entry
@@ -116,60 +116,3 @@ named-head e es = rw (eq-eqb (e .cell) (e .cell) refl, eq-eqb (e .ticket) (e .ti
 pub names-by : (c k : ℕ) (e : Entry) → e .cell ≡ c → e .ticket ≡ k → names c k e ≡ true
 unfolding names
 names-by c k e p q = rw (eq-eqb (e .cell) c p, eq-eqb (e .ticket) k q)
-
-module _ (x : Entry) (xs ys : List Entry) (alike : (c k : ℕ) → named c k (x ∷ xs) ≡ named c k ys)
-    (once : (k : ℕ) → times k (map ticketOf (x ∷ xs)) ≤ 1) (once′ : (k : ℕ) → times k (map ticketOf ys) ≤ 1) where
-  -- The first entry of one list stands in the other.
-  there : named (x .cell) (x .ticket) ys ≡ some x
-  there = sym (alike (x .cell) (x .ticket)) ∙ named-head x xs
-
-  -- Without it handles name the same in both.
-  alike-rest : (c k : ℕ) → named c k xs ≡ named c k (without (x .cell) (x .ticket) ys)
-  unfolding named
-  alike-rest c k =
-      test (names c k x)
-      (λ t.
-      let own = names-own c k x t in
-      let gone : named c k xs ≡ none =
-      named-absent c k xs (omega (arith, once k, times-here k (x .ticket) (map ticketOf xs) (own .1))) in
-      let gone′ : named c k (without c k ys) ≡ none = named-without-own c k ys (once′ k) in
-      rw (own .0, own .1) (gone ∙ sym gone′))
-      (λ t.
-      let past : named c k (x ∷ xs) ≡ named c k xs = rw t in
-      sym past ∙ alike c k ∙ sym (named-without-other (x .cell) (x .ticket) c k (apart t) ys))
-    where
-      apart : names c k x ≡ false → (e : Entry) → names (x .cell) (x .ticket) e ≡ true → names c k e ≡ false
-      apart t e q =
-          test (names c k e)
-          (λ u.
-          let mine = names-own c k e u in
-          let first = names-own (x .cell) (x .ticket) e q in
-          clash (names-by c k x (sym (first .0) ∙ mine .0) (sym (first .1) ∙ mine .1)) t)
-          (λ u. u)
-
--- Lists with tickets that differ, as long, in which every handle names the same, hold the same entries.
-pub same-by-handles : (xs ys : List Entry) → ((c k : ℕ) → named c k xs ≡ named c k ys) → length xs ≡ length ys
-    → ((k : ℕ) → times k (map ticketOf xs) ≤ 1) → ((k : ℕ) → times k (map ticketOf ys) ≤ 1) → SameEntries xs ys
-unfolding times
-same-by-handles [] [] alike l once once′ f k = refl
-same-by-handles [] (y ∷ ys) alike l once once′ f k = absurd (omega arith)
-same-by-handles (x ∷ xs) ys alike l once once′ f k =
-    let here = there x xs ys alike once once′ in
-    let rest : List Entry = without (x .cell) (x .ticket) ys in
-    let each : (g : Entry → ℕ) (j : ℕ) → times j (map g ys) ≡ times j (g x ∷ map g rest) =
-    λ g j. times-without (x .cell) (x .ticket) j g x ys here in
-    let fewer : length xs ≡ length rest =
-    omega (
-      arith,
-      times-each ys,
-      each (λ (e : Entry). 0) 0,
-      times-here 0 0 (map (λ (e : Entry). 0) rest) refl,
-      times-each rest,
-    ) in
-    omega (
-      arith,
-      each f k,
-      same-by-handles xs rest (alike-rest x xs ys alike once once′) fewer
-          (λ j. omega (arith, once j))
-          (λ j. omega (arith, once′ j, each ticketOf j)) f k,
-    )

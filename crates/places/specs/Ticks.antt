@@ -1,7 +1,7 @@
 -- "Places on the wheel" of document 01, over the base `b` (64) and the number of levels `n` (6). Each definition has its sentence above it.
 -- Assumes nothing.
 use Prim.Native.Nat.{ℕ, zero, suc, _+_, _-_, _*_, _/_, _%_, _^_}
-use mathlib.Core.Bool.{Bool, true, false, cond, not, _&&_}
+use mathlib.Core.Bool.{cond, not, _&&_}
 use lib.Dec.{leb, ltb, eqb}
 
 -- "Write ticks with six base-64 digits, position 0 the lowest."

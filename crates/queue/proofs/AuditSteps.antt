@@ -1,15 +1,14 @@
 -- What the audit's small functions find, as equations of their tests: one law for each way out of a function.
 -- Assumes nothing.
 use Prim.Native.Nat.{ℕ, _-_, _/_, _≤_, _<_}
-use native.Mathlib.Omega.{arith}
 use mathlib.Core.Bool.{Bool, true, false, not}
 use mathlib.Core.List.{List}
 use mathlib.Core.Path.{_≡_, sym, ap, _∙_}
-use lib.Dec.{leb, ltb, eqb}
+use lib.Dec.{leb, eqb}
 use borrow.Author.Tests.{le-leb, lt-leb, lt-ltb, le-ltb, eq-eqb, ne-eqb}
 use Rattle.cells.specs.Words.{word}
 use Rattle.cells.specs.Stack.{isFree}
-use Rattle.cells.proofs.Cases.{test, and-false}
+use Rattle.cells.proofs.Cases.{and-false}
 use Rattle.meaning.specs.Heap.{parent}
 use Rattle.heap.specs.declared.seats.Seat.{Seat}
 use Rattle.heap.specs.Seats.{ranked, seatAt}

@@ -7,13 +7,11 @@ use mathlib.Core.List.{List}
 use mathlib.Core.Logic.{_↔_}
 use mathlib.Core.Path.{_≡_, refl, sym, _∙_}
 use lib.Dec.{leb, ltb, eqb}
-use lib.ListN.{length}
 use borrow.Author.Tests.{leb-true, le-leb, ltb-true, lt-ltb, le-ltb, eqb-true, eq-eqb, ne-eqb, not-true}
 use Rattle.cells.specs.Words.{word}
-use Rattle.cells.specs.Stack.{isFree, stackTest}
+use Rattle.cells.specs.Stack.{isFree}
 use Rattle.cells.specs.Rules.{inUse, Sound}
 use Rattle.cells.specs.AuditTests.{allBelow, sharedTest}
-use Rattle.cells.specs.declared.store.Store.{Store}
 use Rattle.cells.proofs.Cases.{test, same?, atMost?, clash, and-true, or-true}
 use Rattle.cells.proofs.Below.{below-each, each-below}
 use Rattle.cells.proofs.Audits.{shared-decides}

@@ -32,11 +32,6 @@ carried-reseated r es a =
     })
     es a
 
--- What holds of all entries and of one more holds of all with that at the end.
-pub all-last : (P : Entry → Type 0) (xs : List Entry) (e : Entry) → All P xs → P e → All P (xs ++ (e ∷ []))
-all-last P [] e a p = (p, tt)
-all-last P (x ∷ xs) e a p = (a .0, all-last P xs e (a .1) p)
-
 -- A cell stands as often among the cells with one more at the end as with it in front.
 pub cells-last : (c : ℕ) (xs : List Entry) (e : Entry) → times c (cellsOf (xs ++ (e ∷ []))) ≡ times c (e .cell ∷ cellsOf xs)
 unfolding times

@@ -11,7 +11,6 @@ use Rattle.cells.specs.Lists.{All, times}
 use Rattle.cells.proofs.Lists.{all-map, all-read}
 use Rattle.cells.proofs.Sums.{all-standing, cond-bit, standing-below, few}
 use Rattle.cells.proofs.Distinct.{all-times}
-use Rattle.meaning.specs.Entries.{Entry}
 use Rattle.meaning.specs.Calls.{Call, result}
 use Rattle.meaning.specs.Kept.{Kept}
 use Rattle.meaning.proofs.Handles.{ticketOf}
@@ -25,6 +24,7 @@ use Rattle.queue.specs.Means.{OfQueue}
 use Rattle.queue.specs.Shows.{Valid, Shows}
 use Rattle.queue.specs.declared.head.Head.{Head}
 use Rattle.queue.proofs.Meets.{meets}
+use Rattle.queue.proofs.ShownFacts.{model-cells, model-fits}
 
 pub record Facts (w : List ℕ) (m : Model) : Type 0 where
   pub some : 2 ≤ m .arity
@@ -56,12 +56,8 @@ module _ (h : Head) (w : List ℕ) (m : Model) (s : Shows h w m) where
   kept : Kept (s .valid .list)
   kept = s .valid .kept
 
-  split : (c : ℕ) → times c (cellsOf (m .heap)) + times c (m .free) ≡ cond (ltb c (m .cells)) 1 0
-  split c =
-      rw (same (λ (e : Entry). e .cell) c, s .valid .means .free, s .valid .means .cells) (kept .cells c)
-
   once : (c : ℕ) → times c (cellsOf (m .heap)) ≤ cond (ltb c (m .cells)) 1 0
-  once c = omega (arith, split c)
+  once c = omega (arith, model-cells m (s .valid) c)
 
   inside : (c : ℕ) → 0 < times c (cellsOf (m .heap)) → c < length w / 8
   inside c l = omega (arith, standing-below c (m .cells) (times c (cellsOf (m .heap))) (once c) l, s .size)
@@ -73,8 +69,8 @@ module _ (h : Head) (w : List ℕ) (m : Model) (s : Shows h w m) where
         most = s .valid .means .most;
         limit = omega (arith, kept .fits, s .valid .means .cells);
         counts = omega (arith, kept .counts, s .valid .means .counter);
-        split = split;
-        fits = omega (arith, few (m .cells) (cellsOf (m .heap)) once, length-map (m .heap) cellOf);
+        split = model-cells m (s .valid);
+        fits = model-fits m (s .valid);
         tickets = λ k. rw (same ticketOf k) (kept .tickets k);
         issued =
             λ k l.

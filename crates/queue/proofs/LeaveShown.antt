@@ -1,6 +1,6 @@
 -- What take and remove make of a model that head and words show: an entry leaves the heap, and its cell goes on top of the free stack.
 -- Assumes nothing.
-use Prim.Native.Nat.{ℕ, zero, suc, _/_, _-_, _≤_, _<_}
+use Prim.Native.Nat.{ℕ, suc, _/_, _-_, _≤_, _<_}
 use native.Mathlib.Omega.{arith}
 use mathlib.Core.Bool.{true, false}
 use mathlib.Core.List.{List, [], _∷_, map}
@@ -17,10 +17,10 @@ use Rattle.cells.proofs.Lists.{all-map, all-both, all-take, all-read, times-her
 use Rattle.cells.proofs.Memory.{word-no-field}
 use Rattle.cells.proofs.Sums.{all-standing, cond-bit}
 use Rattle.cells.proofs.Chains.{chain-links}
-use Rattle.cells.proofs.Rows.{Rewritten, releasedWord, released-words}
+use Rattle.cells.proofs.Rows.{Rewritten, releasedWord, released-words, released-blank}
 use Rattle.meaning.specs.Entries.{Entry, named}
 use Rattle.meaning.specs.Refusals.{firstOf, isEmpty, isNone, stale, empty}
-use Rattle.meaning.specs.Calls.{Call, First, Take, Remove, Answer, Refused, Load, shown, causes}
+use Rattle.meaning.specs.Calls.{Call, First, Take, Remove, Answer, Load, shown, causes}
 use Rattle.meaning.specs.Calls as calls
 use Rattle.meaning.specs.Heap.{at, heapRemove, heapMoves}
 use Rattle.meaning.proofs.Handles.{ticketOf}
@@ -29,16 +29,16 @@ use Rattle.heap.specs.Seats.{Walk}
 use Rattle.heap.specs.Stands.{cellsOf, Stands, Ranks, Apart}
 use Rattle.heap.proofs.Exchanges.{length-heapRemove}
 use Rattle.heap.proofs.Permutes.{times-remove}
-use Rattle.meaning.proofs.ByPosition.{at-stands}
+use Rattle.meaning.proofs.ByPosition.{all-at, at-stands}
 use Rattle.heap.proofs.Carrying.{settle-carries}
-use Rattle.heap.proofs.Seating.{all-at, all-set, all-exchange}
+use Rattle.heap.proofs.Seating.{all-set, all-exchange}
 use Rattle.heap.proofs.RemoveMoves.{refilled, remove-last, remove-inner, refilled-length}
-use Rattle.heap.proofs.Moves.{Differ, moved-still, moves-exactly}
+use Rattle.heap.proofs.Moves.{Differ}
 use Rattle.heap.proofs.Walks.{Comes}
-use Rattle.queue.specs.Model.{Model, Step, asPlain, seatOf, keeping, acceptedBy, step, stepMoves}
+use Rattle.queue.specs.Model.{Model, Step, asPlain, keeping, acceptedBy, step}
 use Rattle.queue.specs.Means.{OfQueue}
 use Rattle.queue.specs.Shows.{Valid, Carried, Shows}
-use Rattle.queue.specs.Answers.{Told, told, refusal, handed}
+use Rattle.queue.specs.Answers.{told, refusal, handed}
 use Rattle.queue.specs.Cells.{foundIn}
 use Rattle.queue.specs.Promise.{Done}
 use Rattle.queue.specs.declared.head.Head.{Head}
@@ -88,7 +88,7 @@ remove-carries P d p h l a =
     rw (remove-inner d p h o)
     (settle-carries (λ (g : List Entry). All P g) (λ i j g li lj b. all-exchange P i j g li lj b) d p (refilled p h)
     (omega (arith, refilled-length p h inner))
-    (all-set P (take n h) p (at h n) (all-at P h n (omega arith) a) (all-take P n h a))))
+    (all-set P (take n h) p (at h n) (all-at P h a n (omega arith)) (all-take P n h a))))
 
 -- The cell that is left stands in the heap no more: each cell stands there once.
 cell-leaves : (w : List ℕ) (d p : ℕ) (h : List Entry) → p < length h → Apart w h → times (at h p .cell) (cellsOf (heapRemove d p h)) ≡ 0
@@ -100,19 +100,6 @@ cell-leaves w d p h l a =
       times-remove (λ (e : Entry). e .cell) c d p h l,
       times-here c c (cellsOf (heapRemove d p h)) refl,
     )
-
--- A cell that was given back keeps nothing but its link and the position table's word.
-released-blank : (w : List ℕ) (c top f : ℕ) → f < 8 → f ≢ 4 → f ≢ 6 → releasedWord w c top f ≡ 0
-unfolding releasedWord
-released-blank w c top zero i n m = refl
-released-blank w c top (suc zero) i n m = refl
-released-blank w c top (suc (suc zero)) i n m = refl
-released-blank w c top (suc (suc (suc zero))) i n m = refl
-released-blank w c top (suc (suc (suc (suc zero)))) i n m = absurd (n refl)
-released-blank w c top (suc (suc (suc (suc (suc zero))))) i n m = refl
-released-blank w c top (suc (suc (suc (suc (suc (suc zero)))))) i n m = absurd (m refl)
-released-blank w c top (suc (suc (suc (suc (suc (suc (suc zero))))))) i n m = refl
-released-blank w c top (suc (suc (suc (suc (suc (suc (suc (suc f)))))))) i n m = absurd (omega arith)
 
 -- A list of no entries is empty.
 empty-none : (es : List Entry) → length es ≡ 0 → isEmpty es ≡ true
@@ -156,7 +143,7 @@ module _ (h : Head) (w : List ℕ) (m : Model) (s : Shows h w m) (p c : ℕ) (l 
 
   -- It lies in the lent words.
   inside : c < length w / 8
-  inside = rw here at (all-at (λ (e : Entry). e .cell < length w / 8) (m .heap) p l (known .apart .inside))
+  inside = rw here at (all-at (λ (e : Entry). e .cell < length w / 8) (m .heap) (known .apart .inside) p l)
 
   -- Giving it back rewrites its words only.
   rewritten : Rewritten (a .words) c (releasedWord (a .words) c (h .store .free)) left
@@ -215,7 +202,7 @@ module _ (h : Head) (w : List ℕ) (m : Model) (s : Shows h w m) (p c : ℕ) (l 
     table = λ q k. left-table q ∙ comes .stands .table q k;
     place =
         λ q k.
-        rewritten .others (at after q .cell) 5 (all-at (λ (e : Entry). c ≢ e .cell) after q k others) ∙ comes .stands .place q k;
+        rewritten .others (at after q .cell) 5 (all-at (λ (e : Entry). c ≢ e .cell) after others q k) ∙ comes .stands .place q k;
   }
 
   -- Behind them the position table is zero.
@@ -298,7 +285,7 @@ module _ (h : Head) (w : List ℕ) (m : Model) (s : Shows h w m) where
 
   -- What is read off the root's cell is the root.
   root-found : 0 < length (m .heap) → handed (foundIn w (word w 0 6)) ≡ calls.Shows (shown (at (m .heap) 0))
-  root-found l = found-shown w (at (m .heap) 0) (word w 0 6) (sym (s .seats .table 0 l)) (all-at (Carried w) (m .heap) 0 l (s .entries))
+  root-found l = found-shown w (at (m .heap) 0) (word w 0 6) (sym (s .seats .table 0 l)) (all-at (Carried w) (m .heap) (s .entries) 0 l)
 
   -- First shows the root, and changes nothing.
   pub first-done : 0 < h .count → Done First m (told (handed (foundIn w (word w 0 6))) 0) h w
@@ -336,6 +323,6 @@ module _ (h : Head) (w : List ℕ) (m : Model) (s : Shows h w m) (c k : ℕ) whe
       let p : ℕ = word w c 5 in
       let filled : p < length (m .heap) = omega (arith, held .seat, held .known) in
       let cell : at (m .heap) p .cell ≡ c = rw (held .known) (held .cell) in
-      let load : word w c 3 ≡ at (m .heap) p .load = rw cell at (all-at (Carried w) (m .heap) p filled (s .entries) .load) in
+      let load : word w c 3 ≡ at (m .heap) p .load = rw cell at (all-at (Carried w) (m .heap) (s .entries) p filled .load) in
       leave-done h w m s p c filled cell a comes gone (Remove c k) tt (Load (word w c 3))
       (rw (held .live, ← (held .known), load))

@@ -16,7 +16,7 @@ pub mod ShownFacts
 pub mod Masks
 pub mod ShownSound
 pub mod SoundShown
-pub mod OneModel
+pub mod OneMemory
 pub mod AuditSteps
 pub mod Audits
 pub mod Checking

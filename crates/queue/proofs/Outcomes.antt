@@ -5,32 +5,17 @@ use mathlib.Core.Bool.{true}
 use mathlib.Core.List.{List}
 use mathlib.Core.Path.{_≡_, refl, sym, subst, _∙_}
 use Rattle.cells.proofs.Cases.{test, clash}
-use Rattle.meaning.specs.Calls.{
-  Call,
-  Put,
-  First,
-  Take,
-  Rekey,
-  Remove,
-  Arm,
-  Move,
-  Cancel,
-  Advance,
-  NextWake,
-  isRefused,
-  causes,
-  result,
-}
+use Rattle.meaning.specs.Calls.{Call, Put, First, Take, Rekey, Remove, Arm, Move, Cancel, Advance, NextWake, isRefused, causes, result}
 use Rattle.meaning.proofs.Given.{given-either}
 use Rattle.queue.specs.Model.{Model, asPlain, Step, acceptedBy, step}
 use Rattle.queue.specs.Means.{OfQueue}
 use Rattle.queue.specs.Shows.{Shows}
 use Rattle.queue.specs.Answers.{Told, told as made}
-use Rattle.queue.specs.Promise.{Done, Promise, Checked}
+use Rattle.queue.specs.Promise.{Promise, Checked}
 use Rattle.queue.specs.AuditTests.{auditTest}
 use Rattle.queue.specs.declared.head.Head.{Head}
 use Rattle.queue.proofs.Meets.{meets}
-use Rattle.queue.proofs.OneModel.{one-memory}
+use Rattle.queue.proofs.OneMemory.{one-memory}
 use Rattle.queue.proofs.Audits.{audit-decides}
 use Rattle.queue.proofs.ShownSound.{shown-sound}
 use Rattle.queue.proofs.SoundShown.{sound-shown}

@@ -1,10 +1,10 @@
 -- What the store's and the heap's calls did comes to the promises of the queue's calls: one law for each way that a call may end.
 -- Assumes nothing.
-use Prim.Native.Nat.{ℕ, suc, _+_, _-_, _≤_, _<_}
+use Prim.Native.Nat.{ℕ, _+_, _-_, _<_}
 use native.Mathlib.Omega.{arith}
-use mathlib.Core.Bool.{Bool, true, false}
-use mathlib.Core.List.{List, map}
-use mathlib.Core.Path.{_≡_, refl, sym, ap, subst, _∙_}
+use mathlib.Core.Bool.{true, false}
+use mathlib.Core.List.{List}
+use mathlib.Core.Path.{_≡_, subst}
 use lib.ListN.{length}
 use Rattle.cells.specs.Words.{word, putWord}
 use Rattle.cells.specs.Store.{noFree, spent, holdsTicket, drawAnswer, drawStore, claimAnswer, claimStore, claimWords, releaseWords, releaseStore}

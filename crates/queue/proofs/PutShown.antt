@@ -14,7 +14,7 @@ use Rattle.cells.specs.Words.{word}
 use Rattle.cells.specs.Stack.{link}
 use Rattle.cells.specs.Store.{noFree, spent, entered}
 use Rattle.cells.proofs.Cases.{same?}
-use Rattle.cells.proofs.Lists.{all-map, all-both, all-read, times-here, times-past}
+use Rattle.cells.proofs.Lists.{all-map, all-both, all-read, times-here, times-past, all-append}
 use Rattle.cells.proofs.Sums.{all-standing, cond-bit, few}
 use Rattle.cells.proofs.Chains.{chain-links}
 use Rattle.cells.proofs.Rows.{entered-words}
@@ -39,7 +39,7 @@ use Rattle.queue.specs.Answers.{told, refusal}
 use Rattle.queue.specs.Promise.{Done}
 use Rattle.queue.specs.declared.head.Head.{Head}
 use Rattle.queue.proofs.Facts.{facts, valid-next}
-use Rattle.queue.proofs.Carries.{carried-reseated, all-last, cells-last, entered-places, entered-table, entered-carried, entered-others}
+use Rattle.queue.proofs.Carries.{carried-reseated, cells-last, entered-places, entered-table, entered-carried, entered-others}
 use Rattle.queue.proofs.Refused.{Topped, topped, no-free-shown, refused-done}
 
 -- The entry that a put makes of a model.
@@ -162,12 +162,14 @@ module _ (h : Head) (w : List ℕ) (m : Model) (s : Shows h w m) (key load : ℕ
     carried-new : All (Carried (putWords h w key load)) (withNew key load m)
     unfolding filed asPlain
     carried-new =
-        all-last _ (m .heap) (newEntry key load m)
+        all-append _ (m .heap) (newEntry key load m ∷ [])
         (all-map (λ x v. entered-others w (h .store .free) (h .store .counter) key load inside x (v .0) (v .1)) (m .heap)
-        (all-both _ _ (m .heap) others-apart (s .entries)))
-        (entered-carried w (h .store .free) (h .store .counter) key load inside (newEntry key load m) own-cell
-        (sym (s .counter)) (sym (s .counter)) refl refl
-        (s .blank (h .store .free) 7 top-free (omega arith) (omega arith)))
+        (all-both _ _ (m .heap) others-apart (s .entries))) (
+          entered-carried w (h .store .free) (h .store .counter) key load inside (newEntry key load m) own-cell
+              (sym (s .counter)) (sym (s .counter)) refl refl
+              (s .blank (h .store .free) 7 top-free (omega arith) (omega arith)),
+          tt,
+        )
       where
         top-free : 1 ≤ times (h .store .free) (m .free)
         top-free =
@@ -233,8 +235,8 @@ module _ (h : Head) (w : List ℕ) (m : Model) (s : Shows h w m) (key load : ℕ
                 room = rw long (omega (arith, room-new, length-new, s .size));
                 inside =
                     rw long
-                    (all-last (λ (x : Entry). x .cell < length w / 8) (m .heap) (newEntry key load m) (facts h w m s .apart .inside)
-                    (rw own-cell inside));
+                    (all-append (λ (x : Entry). x .cell < length w / 8) (m .heap) (newEntry key load m ∷ []) (facts h w m s .apart .inside)
+                    (rw own-cell inside, tt));
                 apart = λ c. omega (arith, new-once c);
               };
           tickets = tickets-new;

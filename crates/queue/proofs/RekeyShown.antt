@@ -1,9 +1,9 @@
 -- A rekey on the words is the model's: what the heap asks of the words with the new key in them, and what the call has done afterwards.
 -- Assumes nothing.
-use Prim.Native.Nat.{ℕ, suc, _+_, _/_, _≤_, _<_}
+use Prim.Native.Nat.{ℕ, _+_, _/_, _≤_, _<_}
 use native.Mathlib.Omega.{arith}
 use mathlib.Core.Bool.{true, false, cond}
-use mathlib.Core.List.{List, [], _∷_}
+use mathlib.Core.List.{List}
 use mathlib.Core.Logic.{_≢_}
 use mathlib.Core.Path.{_≡_, refl, sym, ap, _∙_}
 use lib.Dec.{eqb, ltb}
@@ -28,11 +28,11 @@ use Rattle.meaning.proofs.Given.{given-free}
 use Rattle.heap.specs.Seats.{Walk}
 use Rattle.heap.specs.Stands.{cellsOf, Stands, Ranks, Apart}
 use Rattle.heap.proofs.Carrying.{settle-carries}
-use Rattle.meaning.proofs.ByPosition.{at-stands, one-position}
+use Rattle.meaning.proofs.ByPosition.{all-at, at-stands, one-position, at-all}
 use Rattle.heap.proofs.Exchanges.{at-set, at-set-other, length-heapRekey}
-use Rattle.heap.proofs.Moves.{Differ, moved-still, moves-exactly}
+use Rattle.heap.proofs.Moves.{Differ}
 use Rattle.heap.proofs.Permutes.{times-set}
-use Rattle.heap.proofs.Seating.{all-at, all-set, all-exchange}
+use Rattle.heap.proofs.Seating.{all-set, all-exchange}
 use Rattle.heap.proofs.Walks.{Comes}
 use Rattle.queue.specs.Model.{Model, asPlain, counting, acceptedBy, step, stepMoves}
 use Rattle.queue.specs.Shows.{Valid, Carried, Shows}
@@ -83,12 +83,6 @@ pub record RekeyReady (h : Head) (w : List ℕ) (m : Model) (c key : ℕ) : Type
   pub tickets : Differ (m .heap)
   pub limit : length (m .heap) ≤ 4096
 
--- What holds of the entry at each filled position holds of all.
-pub all-positions : (P : Entry → Type 0) (h : List Entry) → ((p : ℕ) → p < length h → P (at h p)) → All P h
-unfolding at
-all-positions P [] f = tt
-all-positions P (x ∷ xs) f = (f 0 (omega arith), all-positions P xs (λ p l. f (suc p) (omega arith)))
-
 -- What a call is given where no cause applies.
 pub step-accepted : (call : Call) (m : Model) → Free (causes 64 6 call (asPlain m)) → step call m ≡ acceptedBy call m
 unfolding step
@@ -107,7 +101,7 @@ module _ (h : Head) (w : List ℕ) (m : Model) (s : Shows h w m) (c k key : ℕ)
   inside : c < length w / 8
   inside =
       rw here at
-      (all-at (λ (x : Entry). x .cell < length w / 8) (m .heap) (word w c 5) seated (facts h w m s .apart .inside))
+      (all-at (λ (x : Entry). x .cell < length w / 8) (m .heap) (facts h w m s .apart .inside) (word w c 5) seated)
 
   -- The words of cell c with order number and key written, and all else as it was.
   written : Rewritten w c (λ (f : ℕ). cond (eqb 2 f) key (cond (eqb 1 f) (h .store .counter) (word w c f))) (rekeyedWords h w c key)
@@ -138,7 +132,7 @@ module _ (h : Head) (w : List ℕ) (m : Model) (s : Shows h w m) (c k key : ℕ)
   own-carried : Carried (rekeyedWords h w c key) (rekeyed w m c key)
   unfolding refiled asPlain
   own-carried =
-      let old = all-at (Carried w) (m .heap) (word w c 5) seated (s .entries) in
+      let old = all-at (Carried w) (m .heap) (s .entries) (word w c 5) seated in
       record {
         ticket = fields _ 0 (omega arith) (omega arith) ∙ old .ticket;
         order = rw here (written .here 1 ∙ s .counter);
@@ -151,7 +145,7 @@ module _ (h : Head) (w : List ℕ) (m : Model) (s : Shows h w m) (c k key : ℕ)
   -- Each other cell holds the entry that it held.
   other-carried : (q : ℕ) → q < length (m .heap) → q ≢ word w c 5 → Carried (rekeyedWords h w c key) (at (m .heap) q)
   other-carried q l n =
-      let old = all-at (Carried w) (m .heap) q l (s .entries) in
+      let old = all-at (Carried w) (m .heap) (s .entries) q l in
       let other : c ≢ at (m .heap) q .cell =
       λ e. n (one-position (λ (x : Entry). x .cell) (m .heap) (facts h w m s .apart .apart) q (word w c 5) l seated (sym e ∙ sym here)) in
       let same : (f : ℕ) → word (rekeyedWords h w c key) (at (m .heap) q .cell) f ≡ word w (at (m .heap) q .cell) f =
@@ -169,7 +163,7 @@ module _ (h : Head) (w : List ℕ) (m : Model) (s : Shows h w m) (c k key : ℕ)
   carried : All (Carried (rekeyedWords h w c key)) (rekeyedHeap w m c key)
   carried =
       let long = length-set (m .heap) (word w c 5) (rekeyed w m c key) in
-      all-positions _ (rekeyedHeap w m c key)
+      at-all _ (rekeyedHeap w m c key)
       (λ q l.
       same? q (word w c 5)
       (λ e. rw (e, at-set (m .heap) (word w c 5) (rekeyed w m c key) seated) own-carried)
@@ -197,7 +191,7 @@ module _ (h : Head) (w : List ℕ) (m : Model) (s : Shows h w m) (c k key : ℕ)
               inside =
                   rw (written .long)
                   (all-set (λ (x : Entry). x .cell < length w / 8) (m .heap) (word w c 5) (rekeyed w m c key)
-                  (all-at (λ (x : Entry). x .cell < length w / 8) (m .heap) (word w c 5) seated (known .apart .inside))
+                  (all-at (λ (x : Entry). x .cell < length w / 8) (m .heap) (known .apart .inside) (word w c 5) seated)
                   (known .apart .inside));
               apart = λ b. rw (cells-same b) (known .apart .apart b);
             };

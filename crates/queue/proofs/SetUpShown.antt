@@ -3,7 +3,7 @@
 use Prim.Native.Nat.{ℕ, _*_, _/_, _≤_}
 use native.Mathlib.Omega.{arith}
 use mathlib.Core.List.{List}
-use mathlib.Core.Path.{_≡_, refl, sym, ap, _∙_}
+use mathlib.Core.Path.{_≡_, refl, sym, ap}
 use lib.ListN.{length, drop}
 use Rattle.cells.specs.Store.{freshWords}
 use Rattle.cells.proofs.Cases.{same?, atMost?}
@@ -44,12 +44,6 @@ module _ (w : List ℕ) where
               kept = kept-fresh (length w / 8) 0 some most;
             };
       }
-
-  -- Set-up keeps the number of words.
-  pub set-up-length : (d : ℕ) → length (setUpWords w d) ≡ length w
-  unfolding setUpWords
-  set-up-length d =
-      given-either (λ (x : List ℕ). length x ≡ length w) (λ i. w) (freshWords w) (setUpCauses w d) (λ i. refl) (λ f. fresh-length w)
 
   -- "The last L mod 8 words are never touched."
   pub set-up-tail : (d : ℕ) → drop (length w / 8 * 8) (setUpWords w d) ≡ drop (length w / 8 * 8) w

@@ -1,22 +1,22 @@
 -- What head and words that show a model hold at each cell.
 -- Assumes nothing.
-use Prim.Native.Nat.{ℕ, zero, suc, _+_, _≤_, _<_}
+use Prim.Native.Nat.{ℕ, _+_, _≤_, _<_}
 use native.Mathlib.Omega.{arith}
 use mathlib.Core.Bool.{Bool, true, cond, _&&_}
 use mathlib.Core.List.{List}
-use mathlib.Core.Path.{_≡_, refl}
+use mathlib.Core.Path.{_≡_}
 use lib.Dec.{leb, ltb}
 use lib.ListN.{length, length-map}
 use borrow.Author.Tests.{leb-true, le-leb, ltb-true, lt-ltb}
-use Rattle.cells.specs.Lists.{All, times, sumBelow}
+use Rattle.cells.specs.Lists.{All, times}
 use Rattle.cells.proofs.Cases.{and-true}
 use Rattle.cells.proofs.Lists.{all-map}
-use Rattle.cells.proofs.Sums.{sumBelow-most, length-times, all-standing}
+use Rattle.cells.proofs.Sums.{few}
 use Rattle.meaning.specs.Entries.{Entry}
 use Rattle.meaning.specs.Heap.{at}
 use Rattle.meaning.specs.Kept.{Numbered}
 use Rattle.meaning.proofs.ByPosition.{all-at, all-same}
-use Rattle.meaning.proofs.Stored.{Stored, cell-below}
+use Rattle.meaning.proofs.Stored.{Stored}
 use Rattle.heap.specs.Stands.{cellsOf}
 use Rattle.queue.specs.Model.{Model}
 use Rattle.queue.specs.Shows.{Carried, Valid, Shows}
@@ -43,12 +43,6 @@ to-numbered n e t =
     let two = and-true (leb (e .ticket) (e .order)) (ltb (e .order) n) (one .1) in
     record { some = leb-true _ _ (one .0); rising = leb-true _ _ (two .0); taken = ltb-true _ _ (two .1) }
 
--- One for each number below n is n.
-sum-ones : (n : ℕ) → sumBelow (λ (x : ℕ). 1) n ≡ n
-unfolding sumBelow
-sum-ones zero = refl
-sum-ones (suc n) = omega (arith, sum-ones n)
-
 -- A model that means a list that keeps to the rules keeps to them itself.
 module _ (m : Model) (v : Valid m) where
   -- Free cells and cells in use are together 0 to N - 1, once each.
@@ -67,15 +61,9 @@ module _ (m : Model) (v : Valid m) where
   -- There are no more entries than cells.
   pub model-fits : length (m .heap) ≤ m .cells
   model-fits =
-      let each : All (λ (c : ℕ). c < m .cells) (cellsOf (m .heap)) =
-      all-standing (λ (c : ℕ). c < m .cells) (cellsOf (m .heap))
-      (λ c k. cell-below (m .cells) (m .heap) (m .free) model-cells c (omega arith)) in
       omega (
         arith,
-        length-times (m .cells) (cellsOf (m .heap)) each,
-        sumBelow-most (λ (c : ℕ). times c (cellsOf (m .heap))) (λ (x : ℕ). 1) (m .cells)
-            (λ c k. omega (arith, rw (lt-ltb c (m .cells) k) at (model-cells c))),
-        sum-ones (m .cells),
+        few (m .cells) (cellsOf (m .heap)) (λ c. omega (arith, model-cells c)),
         length-map (m .heap) (λ (e : Entry). e .cell),
       )
 

@@ -1,7 +1,7 @@
 -- What each case of the calls' enums says, in document 01's numbers and values.
 -- Assumes nothing.
 use Prim.Native.Nat.{ℕ}
-use Rattle.meaning.specs.Calls.{Answer, Refused, Handle, Changed, Load, Shows, Shown}
+use Rattle.meaning.specs.Calls.{Answer, Refused, Handle, Changed, Load, Shows}
 use Rattle.queue.specs.declared.head.Found.{Found}
 use Rattle.queue.specs.declared.head.PutAnswer.{PutAnswer}
 use Rattle.queue.specs.declared.head.PutAnswer.the-variants as put

@@ -4,11 +4,9 @@ use Prim.Native.Nat.{ℕ}
 use mathlib.Core.Bool.{Bool, not, _&&_, _||_}
 use mathlib.Core.List.{List}
 use lib.Dec.{leb, ltb, eqb}
-use lib.ListN.{length}
 use Rattle.cells.specs.Words.{word}
-use Rattle.cells.specs.Stack.{isFree, stackTest}
-use Rattle.cells.specs.AuditTests.{sharedTest, allBelow, cellTest, usedBelow, sizeTest, differTest}
-use Rattle.cells.specs.declared.store.Store.{Store}
+use Rattle.cells.specs.Stack.{isFree}
+use Rattle.cells.specs.AuditTests.{sharedTest, allBelow}
 use Rattle.meaning.specs.Heap.{parent}
 use Rattle.heap.specs.Seats.{ranked, seatAt}
 use Rattle.queue.specs.Rules.{usedMask, freeMask}

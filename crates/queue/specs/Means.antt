@@ -1,6 +1,6 @@
 -- When a model of a ready queue means a plain list.
 -- Assumes nothing.
-use Prim.Native.Nat.{ℕ, _≤_}
+use Prim.Native.Nat.{_≤_}
 use mathlib.Core.Path.{_≡_}
 use Rattle.meaning.specs.Arranged.{SameEntries}
 use Rattle.meaning.specs.Plain.{Plain}

@@ -3,12 +3,12 @@
 use Prim.Native.Nat.{ℕ, zero, suc, _+_, _-_, _/_, _%_, _^_, _≤_, _<_}
 use native.Mathlib.Nat.{div-one, div-div-eq-div-mul, pow-zero, pow-suc, pow-succ'}
 use native.Mathlib.Omega.{arith}
-use mathlib.Core.Bool.{true, false, _||_, _&&_, not}
+use mathlib.Core.Bool.{true, false}
 use mathlib.Core.Logic.{_≢_}
 use mathlib.Core.Path.{_≡_, refl, sym, ap, _∙_}
 use lib.Dec.{eqb}
 use borrow.Author.Tests.{eqb-true, eqb-false, eq-eqb, ne-eqb}
-use Rattle.cells.proofs.Cases.{test, same?}
+use Rattle.cells.proofs.Cases.{test}
 use Rattle.slots.specs.Rings.{isMarked, marked, unmarked}
 
 -- Digit t of m.
@@ -162,11 +162,18 @@ unmarked-other m s t d =
     rw e (same-mark (m - 2 ^ s) m t (sym (rw back at kept))))
     (λ e. rw e)
 
+-- A mark can be set within n digits, and taken away.
+pub mark-fits : (n m s : ℕ) → s < n → m < 2 ^ n → isMarked m s ≡ false → m + 2 ^ s < 2 ^ n
+mark-fits n m s k h e = bit-fits n s m k h (mark-zero m s e)
+
+pub mark-within : (m s : ℕ) → isMarked m s ≡ true → 2 ^ s ≤ m
+mark-within m s e = bit-least s m (mark-one m s e)
+
 -- The word of a level keeps its 64 digits.
 pub marked-narrow : (n m s : ℕ) → s < n → m < 2 ^ n → marked m s < 2 ^ n
 unfolding marked
 marked-narrow n m s k h =
-    test (isMarked m s) (λ e. rw e h) (λ e. rw e (bit-fits n s m k h (mark-zero m s e)))
+    test (isMarked m s) (λ e. rw e h) (λ e. rw e (mark-fits n m s k h e))
 
 pub unmarked-narrow : (n m s : ℕ) → m < 2 ^ n → unmarked m s < 2 ^ n
 unfolding unmarked
@@ -180,16 +187,3 @@ marks-same n x y hx hy same =
     test (isMarked x t)
     (λ e. mark-one x t e ∙ sym (mark-one y t (sym (same t h) ∙ e)))
     (λ e. mark-zero x t e ∙ sym (mark-zero y t (sym (same t h) ∙ e))))
-
--- Both laws as one equation each.
-pub marked-is : (m s t : ℕ) → isMarked (marked m s) t ≡ eqb t s || isMarked m t
-marked-is m s t =
-    same? t s
-    (λ e. rw (eq-eqb t s e, e) (marked-here m s))
-    (λ d. rw (ne-eqb t s d) (marked-other m s t d))
-
-pub unmarked-is : (m s t : ℕ) → isMarked (unmarked m s) t ≡ not (eqb t s) && isMarked m t
-unmarked-is m s t =
-    same? t s
-    (λ e. rw (eq-eqb t s e, e) (unmarked-here m s))
-    (λ d. rw (ne-eqb t s d) (unmarked-other m s t d))

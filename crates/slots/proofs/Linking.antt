@@ -104,10 +104,6 @@ module _ (N P : ℕ → ℕ) where
   linked-glue a [] y ys b h k = (h .0, h .1, k)
   linked-glue a (x ∷ xs) y ys b h k = (h .0, h .1, linked-glue x xs y ys b (h .2) k)
 
-  -- What follows a cell of the list.
-  pub linked-next : (a : ℕ) (xs : List ℕ) (x y : ℕ) (ys : List ℕ) (b : ℕ) → Linked N P a (xs ++ (x ∷ (y ∷ ys))) b → N x ≡ y
-  linked-next a xs x y ys b h = linked-cut a xs x (y ∷ ys) b h .1 .0
-
   -- What follows a cell of the list is the end or stands in the list,
   pub linked-next-in : (a : ℕ) (xs : List ℕ) (b c : ℕ) → 1 ≤ times c xs → Linked N P a xs b → 1 ≤ times (N c) (b ∷ xs)
   unfolding times

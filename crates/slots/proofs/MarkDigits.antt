@@ -1,15 +1,14 @@
 -- Marks as binary digits: setting and clearing one within 64, and the search for the lowest.
 -- Assumes nothing.
-use Prim.Native.Nat.{ℕ, zero, suc, _+_, _-_, _*_, _/_, _%_, _^_, _≤_, _<_}
-use native.Mathlib.Nat.{add-zero, add-suc, zero-add, suc-add, suc-mul, zero-mul, one-mul, pow-suc, mod-lt, zero-mod, zero-div, div-one, div-eq-of-lt, mod-eq-of-lt, lt-of-lt-of-le}
+use Prim.Native.Nat.{ℕ, zero, suc, _+_, _-_, _*_, _/_, _%_, _^_, _<_}
+use native.Mathlib.Nat.{add-zero, add-suc, zero-add, suc-add, zero-mul, one-mul, zero-mod, zero-div, div-one, div-eq-of-lt, mod-eq-of-lt, lt-of-lt-of-le}
 use native.Mathlib.Omega.{arith}
 use mathlib.Core.Bool.{Bool, true, false, cond}
 use mathlib.Core.List.{List}
 use mathlib.Core.Path.{_≡_, refl, sym, ap, _∙_, subst}
-use lib.Arith.{digits-lt}
 use lib.Dec.{eqb, lit<}
 use lib.ListN.{getD}
-use lib.Pow.{pow-pos, pow-mono, pow-add, shr-lt, shl-exact, shr-shr, split, mod-mod-pow, field, mod-pow-add}
+use lib.Pow.{pow-mono, shl-exact, shr-shr, split, mod-mod-pow, field, mod-pow-add}
 use borrow.Author.Tests.{eq-eqb, ne-eqb}
 use Rattle.cells.proofs.Cases.{atMost?, same?}
 use Rattle.slots.specs.Rings.{isMarked, scan, slotMarked, passed}
@@ -18,21 +17,6 @@ use Rattle.slots.specs.declared.slots.Passed.{Passed}
 -- `1 << s` at 64 digits.
 pub one-shl : (s : ℕ) → s < 64 → (1 * 2 ^ s) % 2 ^ 64 ≡ 2 ^ s
 one-shl s h = shl-exact {a = 1} 1 s 64 (lit< tt) (omega arith) ∙ one-mul (2 ^ s)
-
--- A digit that is 0 can be set: the number keeps to 64 digits.
-pub mark-fits : (m s : ℕ) → s < 64 → m < 2 ^ 64 → (m / 2 ^ s % 2 ≡ 1 → ⊥) → m + 2 ^ s < 2 ^ 64
-mark-fits m s h k d =
-    let e : suc (63 - s) + s ≡ 64 = omega arith in
-    let low : m / 2 ^ s < 2 ^ suc (63 - s) = shr-lt {n = m} (suc (63 - s)) s (rw e k) in
-    let more : suc (m / 2 ^ s) < 2 ^ suc (63 - s) = omega (arith, pow-suc 2 (63 - s)) in
-    let room : suc (m / 2 ^ s) * 2 ^ s + m % 2 ^ s < 2 ^ suc (63 - s) * 2 ^ s = digits-lt more (mod-lt m (pow-pos s)) in
-    let whole : 2 ^ suc (63 - s) * 2 ^ s ≡ 2 ^ 64 = sym (pow-add 2 (suc (63 - s)) s) ∙ ap (λ (n : ℕ). 2 ^ n) e in
-    omega (arith, suc-mul (m / 2 ^ s) (2 ^ s), split m s)
-
--- A digit that is 1 can be taken away.
-pub mark-within : (m s : ℕ) → m / 2 ^ s % 2 ≡ 1 → 2 ^ s ≤ m
-mark-within m s e =
-    atMost? (2 ^ s) m (λ h. h) (λ h. let none = div-eq-of-lt h in absurd (omega arith))
 
 -- A number without the digits below k has 0 for each of them.
 digit-clear : (n k j : ℕ) → n % 2 ^ k ≡ 0 → j < k → n / 2 ^ j % 2 ≡ 0
@@ -163,15 +147,14 @@ halved-on x k p q h s is =
 pub halved-end : (x : ℕ) (p : Passed) → x < 2 ^ 64 → Halved x 1 p → p .digits ≡ scan (isMarked x) 64 0
 halved-end x p h s = lowest-end x (p .digits) (p .rest) h (s .low) (s .some)
 
+-- A digit of a level's word is the mark of a slot.
+pub slot-digit : (marks : List ℕ) (p t : ℕ) → t < 64 → slotMarked marks (p * 64 + t) ≡ isMarked (getD marks p 0) t
+unfolding slotMarked
+slot-digit marks p t h =
+    let level : (p * 64 + t) / 64 ≡ p = omega arith in let slot : (p * 64 + t) % 64 ≡ t = omega arith in rw (level, slot)
+
 -- A level's marks are 64 slots.
 module _ (marks : List ℕ) (p m : ℕ) (h : p < 6) (e : m ≡ getD marks p 0) where
-  slot-digit : (j : ℕ) → j < 64 → slotMarked marks (p * 64 + j) ≡ isMarked m j
-  unfolding slotMarked
-  slot-digit j k =
-      let at : (p * 64 + j) / 64 ≡ p = omega arith in
-      let digit : (p * 64 + j) % 64 ≡ j = omega arith in
-      rw (at, digit, e)
-
   -- A level without marks is passed.
   pub level-none : m ≡ 0 → scan (slotMarked marks) (384 - p * 64) (p * 64) ≡ scan (slotMarked marks) (384 - (p + 1) * 64) ((p + 1) * 64)
   unfolding isMarked
@@ -180,7 +163,7 @@ module _ (marks : List ℕ) (p m : ℕ) (h : p < 6) (e : m ≡ getD marks p 0) w
       let after : (p + 1) * 64 ≡ p * 64 + 64 = omega arith in
       rw (parts, after)
       (scan-skip (slotMarked marks) 64 (384 - (p * 64 + 64)) (p * 64)
-      (λ j k. slot-digit j k ∙ rw (z, zero-div (2 ^ j))))
+      (λ j k. slot-digit marks p j k ∙ rw (← e, z, zero-div (2 ^ j))))
 
   -- The lowest mark of the first level that has one is the first.
   pub level-found : (r : ℕ) → r ≡ scan (isMarked m) 64 0 → r < 64 → p * 64 + r ≡ scan (slotMarked marks) (384 - p * 64) (p * 64)
@@ -188,7 +171,7 @@ module _ (marks : List ℕ) (p m : ℕ) (h : p < 6) (e : m ≡ getD marks p 0) w
       let parts : 384 - p * 64 ≡ 64 + (320 - p * 64) = omega arith in
       let there : scan (slotMarked marks) 64 (p * 64) ≡ p * 64 + r
       = ap (scan (slotMarked marks) 64) (sym (add-zero (p * 64)))
-      ∙ scan-shift (slotMarked marks) (isMarked m) (p * 64) 64 0 (λ j l. slot-digit j (omega arith))
+      ∙ scan-shift (slotMarked marks) (isMarked m) (p * 64) 64 0 (λ j l. slot-digit marks p j (omega arith) ∙ ap (λ (n : ℕ). isMarked n j) (sym e))
       ∙ ap (λ (n : ℕ). p * 64 + n) (sym is) in
       sym (rw parts (scan-found (slotMarked marks) 64 (320 - p * 64) (p * 64) (omega arith) ∙ there))
 

@@ -103,16 +103,6 @@ ring-mark w (x ∷ xs) cells e ring =
     let h : e .first ≡ x = rw (next-none w e noCell refl) at (ring .0) in
     omega (arith, cells .inside x (omega (arith, times-here x x xs refl)), cells .room))
 
--- and exactly if its last cell is.
-pub ring-mark-last : (w xs : List ℕ) → Cells w xs → (e : Ends) → RingOf w e xs → eqb (e .last) noCell ≡ not (hasCells xs)
-unfolding hasCells
-ring-mark-last w [] cells e ring = eq-eqb (e .last) noCell (rw (previous-none w e noCell refl) at (ring .1))
-ring-mark-last w (x ∷ xs) cells e ring =
-    let there : 1 ≤ times (e .last) (x ∷ xs) =
-    rw (previous-none w e noCell refl) at (linked-last (next w e) (previous w e) x xs noCell (ring .2))
-    in
-    ne-eqb (e .last) noCell (λ s. omega (arith, cells .inside (e .last) there, cells .room))
-
 -- The cells of a list that one joined are cells, each once,
 pub cells-join :
     (w w′ xs : List ℕ) (c : ℕ)

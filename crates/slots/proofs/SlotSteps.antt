@@ -7,29 +7,12 @@ use mathlib.Core.List.{List, [], _∷_}
 use mathlib.Core.Path.{_≡_, refl, sym, _∙_}
 use lib.Dec.{ltb, eqb}
 use lib.ListN.{length, getD, set}
-use borrow.Author.Tests.{lt-ltb, le-ltb, ltb-true, eqb-true, eqb-false}
+use borrow.Author.Tests.{lt-ltb, le-ltb, ltb-true}
 use Rattle.cells.proofs.Cases.{and-true}
 use Rattle.cells.specs.Stack.{noCell}
 use Rattle.cells.specs.Words.{word, putWord}
 use Rattle.slots.specs.declared.ring.Ends.{Ends}
-use Rattle.slots.specs.Rings.{
-  Ring,
-  relinked,
-  joined,
-  left,
-  isMarked,
-  marked,
-  unmarked,
-  Lists,
-  hasSlot,
-  endsOf,
-  withRing,
-  joinSlot,
-  leaveSlot,
-  emptySlot,
-  lent,
-  firstCell,
-}
+use Rattle.slots.specs.Rings.{Ring, relinked, joined, left, isMarked, marked, unmarked, Lists, hasSlot, endsOf, withRing, joinSlot, leaveSlot, emptySlot, lent, firstCell}
 
 -- Two links make a cell follow another.
 pub relinked-is : (w : List ℕ) (e : Ends) (a b f l : ℕ) {v u : List ℕ} → v ≡ cond (eqb a noCell) w (putWord w a 4 b)
@@ -69,14 +52,6 @@ ends-are f l i a b p q = rw (p, q)
 
 -- A mark by its test.
 module _ (m s : ℕ) {t : Bool} (e : t ≡ isMarked m s) where
-  pub digit-one : t ≡ true → m / 2 ^ s % 2 ≡ 1
-  unfolding isMarked
-  digit-one y = eqb-true (m / 2 ^ s % 2) 1 (sym e ∙ y)
-
-  pub digit-none : t ≡ false → m / 2 ^ s % 2 ≡ 1 → ⊥
-  unfolding isMarked
-  digit-none y = eqb-false (m / 2 ^ s % 2) 1 (sym e ∙ y)
-
   -- What setting and clearing give at a digit 1, and at a digit 0.
   pub marked-is : t ≡ true → (m ≡ marked m s) × (unmarked m s ≡ m - 2 ^ s)
   unfolding marked unmarked

@@ -3,19 +3,20 @@
 use Prim.Native.Nat.{ℕ, zero, suc, _+_, _*_, _/_, _%_, _≤_, _<_}
 use native.Mathlib.Omega.{arith}
 use mathlib.Core.Bool.{Bool, true, false, cond}
-use mathlib.Core.List.{List, [], _∷_}
+use mathlib.Core.List.{List, []}
 use mathlib.Core.Logic.{_≢_}
 use mathlib.Core.Path.{_≡_, refl, sym, ap, _∙_}
 use lib.ListN.{length, getD, replicate, length-replicate}
 use lib.Seq.{ext-getD}
 use borrow.Author.Tests.{eq-eqb, ne-eqb}
-use Rattle.cells.proofs.Cases.{same?, clash}
+use Rattle.cells.proofs.Cases.{same?}
 use Rattle.cells.specs.Lists.{times}
 use Rattle.cells.specs.Stack.{noCell, Chain}
 use Rattle.cells.specs.Words.{word}
-use Rattle.slots.specs.Rings.{next, previous, isMarked, Lists, endsOf, scan, slotMarked, firstMarked}
+use Rattle.slots.specs.Rings.{next, previous, Lists, endsOf, scan, slotMarked, firstMarked}
 use Rattle.slots.specs.Stand.{dueList, endsAt, hasCells, Stand}
 use Rattle.slots.specs.declared.ring.Ends.{Ends}
+use Rattle.slots.proofs.MarkDigits.{slot-digit}
 use Rattle.slots.proofs.Binary.{zero-unmarked, marks-same}
 use Rattle.slots.proofs.Changing.{stand-cells}
 use Rattle.slots.proofs.Linking.{linked-one}
@@ -30,12 +31,6 @@ pub walk-next :
     → i ≤ dueList
     → Chain (λ (c : ℕ). word (l .words) c 4) (endsAt l i .first) (ls i)
 walk-next l ls s i h = ring-chain (l .words) (ls i) (stand-cells l ls s i h) (endsAt l i) (s .rings i h)
-
--- A list without cells is empty.
-pub no-cells : (xs : List ℕ) → hasCells xs ≡ false → xs ≡ []
-unfolding hasCells
-no-cells [] e = refl
-no-cells (x ∷ xs) e = clash refl e
 
 -- The least of k numbers from i on that passes a test.
 pub record Least (passes : ℕ → Bool) (k i n : ℕ) : Type 0 where
@@ -101,12 +96,6 @@ due-first l i e = rw (eq-eqb i dueList e)
 due-last : (l : Lists) (i : ℕ) → i ≡ dueList → endsAt l i .last ≡ l .due .last
 unfolding endsAt
 due-last l i e = rw (eq-eqb i dueList e)
-
--- A digit of a level's word is the mark of a slot.
-slot-digit : (marks : List ℕ) (p t : ℕ) → t < 64 → slotMarked marks (p * 64 + t) ≡ isMarked (getD marks p 0) t
-unfolding slotMarked
-slot-digit marks p t h =
-    let level : (p * 64 + t) / 64 ≡ p = omega arith in let slot : (p * 64 + t) % 64 ≡ t = omega arith in rw (level, slot)
 
 -- Ends and lists with equal parts are equal.
 ends-same : (a b a′ b′ : ℕ) → a ≡ a′ → b ≡ b′ → _≡_ {A = Ends} (record { first = a; last = b }) (record { first = a′; last = b′ })

@@ -76,10 +76,6 @@ withRing l i r mark =
       due = l .due;
     }
 
--- A mark that stays as it is.
-unfoldable pub asWas : ℕ → ℕ → ℕ
-asWas m s = m
-
 -- Cell c joins slot i at the tail, and the slot is marked; nothing is done where there is no such slot.
 unfoldable pub joinSlot : Lists → ℕ → ℕ → Lists
 joinSlot l i c = cond (hasSlot l i) (withRing l i (joined (l .words) (endsOf l i) c) marked) l

@@ -3,7 +3,7 @@
 use mathlib.Core.Path.{ap, _∙_}
 use borrow.Author.Needs.{needs}
 use Rattle.cells.specs.Sorted.{neighboursDiffer}
-use Rattle.cells.proofs.Audits.{sort-equal}
+use Rattle.cells.proofs.CellSort.{list-fits}
 use Rattle.cells.proofs.audit.distinct.Statement.{statement}
 use Rattle.cells.proofs.audit.distinct.Tie as tie
 use Rattle.cells.proofs.audit.distinct.Reads as reads
@@ -30,7 +30,7 @@ same-length-2 c = search needs
 -- src/audit.rt:127:1
 returns : tie.Need-returns
 returns c =
-    let sorted = c .before .before .before .before .before .before .sort .ensures .list ∙ sort-equal _ _ _ _ _ (search needs) in
+    let sorted = c .before .before .before .before .before .before .sort .ensures .list ∙ list-fits _ _ _ _ _ (search needs) in
     (c .all-differ .ensures ∙ ap (neighboursDiffer _ _) sorted, sorted)
 
 pub distinct-spec : {M : Type 1} → statement M

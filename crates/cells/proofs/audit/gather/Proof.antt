@@ -1,11 +1,10 @@
 -- `cells::audit::gather` meets its contract. The invariant: the cells in use below c stand at the front, the rest of the array is as it was.
 -- Assumes nothing.
-use Prim.Native.Nat.{ℕ, _+_, _-_, _≤_, _<_}
+use Prim.Native.Nat.{ℕ, _-_, _≤_}
 use native.Mathlib.Omega.{arith}
-use mathlib.Core.List.{List, _++_}
-use mathlib.Core.Path.{_≡_, refl, sym, ap, _∙_}
+use mathlib.Core.List.{_++_}
+use mathlib.Core.Path.{_≡_, refl, ap, _∙_}
 use lib.ListN.{length, drop}
-use borrow.Author.Needs.{needs}
 use Rattle.cells.specs.AuditTests.{usedBelow}
 use Rattle.cells.proofs.Steps.{used-length, gather-count, gather-step, gather-length}
 use Rattle.cells.proofs.audit.gather.Statement.{statement}

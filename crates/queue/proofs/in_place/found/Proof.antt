@@ -1,6 +1,5 @@
 -- `queue::in_place::found` meets its contract: three reads.
 -- Assumes nothing.
-use mathlib.Core.Path.{_≡_}
 use Rattle.queue.specs.Cells.{foundIn}
 use borrow.Author.Needs.{needs}
 use Rattle.queue.proofs.in_place.found.Statement.{statement}

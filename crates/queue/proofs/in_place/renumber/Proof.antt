@@ -1,6 +1,5 @@
 -- `queue::in_place::renumber` meets its contract: the position is read, the two words are written, and the entry settles.
 -- Assumes nothing.
-use mathlib.Core.Path.{_≡_}
 use borrow.Author.Needs.{needs}
 use Rattle.queue.proofs.in_place.renumber.Statement.{statement}
 use Rattle.queue.proofs.in_place.renumber.Tie as tie

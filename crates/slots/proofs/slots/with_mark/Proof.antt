@@ -1,7 +1,8 @@
 -- `slots::slots::with_mark` meets its contract: where the digit is 0 the sum fits. Assumes nothing.
-use mathlib.Core.Path.{sym}
-use Rattle.slots.proofs.MarkDigits.{one-shl, mark-fits}
-use Rattle.slots.proofs.SlotSteps.{digit-none, marked-is, unmarked-is}
+use mathlib.Core.Path.{sym, _∙_}
+use Rattle.slots.proofs.MarkDigits.{one-shl}
+use Rattle.slots.proofs.Binary.{mark-fits}
+use Rattle.slots.proofs.SlotSteps.{marked-is, unmarked-is}
 use borrow.Author.Needs.{needs}
 use Rattle.slots.proofs.slots.with_mark.Statement.{statement}
 use Rattle.slots.proofs.slots.with_mark.Tie as tie
@@ -18,7 +19,7 @@ shl-result c = search needs
 add-result : tie.Need-add-result
 add-result c =
     let start = c .before .before in
-    let fits = mark-fits (start .args .m) (start .args .s) (start .pre) (start .fits .m .fits) (digit-none _ _ (c .before .is-marked .ensures) (c .if1 .left)) in
+    let fits = mark-fits 64 (start .args .m) (start .args .s) (start .pre) (start .fits .m .fits) (sym (c .before .is-marked .ensures) ∙ c .if1 .left) in
     record { fits = rw (one-shl (start .args .s) (start .pre)) fits }
 
 returns-2 : tie.Need-returns-2

@@ -1,7 +1,8 @@
 -- `slots::slots::without_mark` meets its contract: where the digit is 1 the number is at least as large. Assumes nothing.
-use mathlib.Core.Path.{sym}
-use Rattle.slots.proofs.MarkDigits.{one-shl, mark-within}
-use Rattle.slots.proofs.SlotSteps.{digit-one, marked-is, unmarked-is}
+use mathlib.Core.Path.{sym, _∙_}
+use Rattle.slots.proofs.MarkDigits.{one-shl}
+use Rattle.slots.proofs.Binary.{mark-within}
+use Rattle.slots.proofs.SlotSteps.{marked-is, unmarked-is}
 use borrow.Author.Needs.{needs}
 use Rattle.slots.proofs.slots.without_mark.Statement.{statement}
 use Rattle.slots.proofs.slots.without_mark.Tie as tie
@@ -15,7 +16,7 @@ shl-result c = search needs
 sub-result : tie.Need-sub-result
 sub-result c =
     let start = c .before .before in
-    rw (one-shl (start .args .s) (start .pre)) (mark-within _ _ (digit-one _ _ (c .before .is-marked .ensures) (c .if1 .taken)))
+    rw (one-shl (start .args .s) (start .pre)) (mark-within _ _ (sym (c .before .is-marked .ensures) ∙ c .if1 .taken))
 
 returns : tie.Need-returns
 returns c =

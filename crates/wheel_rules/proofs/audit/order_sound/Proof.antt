@@ -2,7 +2,7 @@
 -- Assumes nothing.
 use mathlib.Core.Path.{ap, _∙_}
 use borrow.Author.Needs.{needs}
-use Rattle.cells.proofs.Audits.{sort-equal}
+use Rattle.cells.proofs.CellSort.{list-fits}
 use Rattle.wheel_rules.specs.AuditTests.{neighboursRise, orderTest}
 use Rattle.wheel_rules.proofs.audit.order_sound.Statement.{statement}
 use Rattle.wheel_rules.proofs.audit.order_sound.Tie as tie
@@ -23,7 +23,7 @@ returns : tie.Need-returns
 unfolding orderTest
 returns c =
     c .all-rise .ensures
-    ∙ ap (neighboursRise _) (c .before .before .before .before .before .before .sort .ensures .list ∙ sort-equal _ _ _ _ _ (search needs))
+    ∙ ap (neighboursRise _) (c .before .before .before .before .before .before .sort .ensures .list ∙ list-fits _ _ _ _ _ (search needs))
 
 pub order-sound-spec : {M : Type 1} → statement M
 order-sound-spec =

@@ -1,42 +1,28 @@
--- Head and words show one model at most, and a model is shown by one head and one memory only.
+-- A model is shown by one head and one memory only.
 -- Assumes nothing.
 use Prim.Native.Nat.{ℕ, _*_, _/_, _≤_, _<_}
 use native.Mathlib.Omega.{arith}
 use mathlib.Core.List.{List}
-use mathlib.Core.Path.{_≡_, sym, ap, _∙_}
+use mathlib.Core.Path.{_≡_, sym, _∙_}
 use lib.ListN.{length, drop}
 use Rattle.cells.specs.Lists.{times}
 use Rattle.cells.specs.Words.{word}
 use Rattle.cells.specs.Stack.{link}
 use Rattle.cells.proofs.Cases.{same?, atMost?}
-use Rattle.cells.proofs.Chains.{AreCells, chain-same, chain-tops, chain-alike}
+use Rattle.cells.proofs.Chains.{chain-tops, chain-alike}
 use Rattle.cells.proofs.Distinct.{all-times}
 use Rattle.cells.proofs.Places.{words-ext, each-field}
-use Rattle.meaning.specs.Entries.{Entry}
 use Rattle.meaning.specs.Heap.{at}
-use Rattle.meaning.proofs.ByPosition.{entries-ext}
-use Rattle.meaning.proofs.Same.{entry-same}
-use Rattle.meaning.proofs.Stored.{free-cells, cell-either}
+use Rattle.meaning.proofs.Stored.{cell-either}
 use Rattle.queue.specs.Model.{Model}
-use Rattle.queue.specs.Shows.{Carried, Shows}
+use Rattle.queue.specs.Shows.{Shows}
 use Rattle.queue.specs.declared.head.Head.{Head}
 use Rattle.queue.proofs.ShownFacts.{carried-at, shown-stored}
-
--- A model of its parts.
-abbrev modelOf : (arity : ℕ) (heap : List Entry) (counter cells : ℕ) (free : List ℕ) → Model
-modelOf arity heap counter cells free = record { arity = arity; heap = heap; counter = counter; cells = cells; free = free }
 
 -- A head of its numbers.
 abbrev headOf : (arity count cells free counter : ℕ) → Head
 headOf arity count cells free counter =
     record { arity = arity; count = count; store = record { cells = cells; free = free; counter = counter } }
-
--- Two models with the same parts are one.
-model-same : (m m′ : Model) → m .arity ≡ m′ .arity → m .heap ≡ m′ .heap → m .counter ≡ m′ .counter → m .cells ≡ m′ .cells → m .free ≡ m′ .free → m ≡ m′
-model-same m m′ a b c d e =
-    let whole : modelOf (m .arity) (m .heap) (m .counter) (m .cells) (m .free)
-    ≡ modelOf (m′ .arity) (m′ .heap) (m′ .counter) (m′ .cells) (m′ .free) = cc in
-    whole
 
 -- Two heads with the same numbers are one.
 head-same : (h h′ : Head) → h .arity ≡ h′ .arity → h .count ≡ h′ .count → h .store .cells ≡ h′ .store .cells → h .store .free ≡ h′ .store .free
@@ -45,41 +31,6 @@ head-same h h′ a b c d e =
     let whole : headOf (h .arity) (h .count) (h .store .cells) (h .store .free) (h .store .counter)
     ≡ headOf (h′ .arity) (h′ .count) (h′ .store .cells) (h′ .store .free) (h′ .store .counter) = cc in
     whole
-
--- One cell carries one entry only.
-carried-one : (w : List ℕ) (x y : Entry) → x .cell ≡ y .cell → Carried w x → Carried w y → x ≡ y
-carried-one w x y e a b =
-    let at-y : (f : ℕ) → word w (x .cell) f ≡ word w (y .cell) f = λ f. ap (λ (c : ℕ). word w c f) e in
-    entry-same x y
-    (sym (a .key) ∙ at-y 2 ∙ b .key)
-    (sym (a .order) ∙ at-y 1 ∙ b .order)
-    e
-    (sym (a .ticket) ∙ at-y 0 ∙ b .ticket)
-    (sym (a .load) ∙ at-y 3 ∙ b .load)
-
--- Free cells are cells.
-cells : (h : Head) (w : List ℕ) (m : Model) (s : Shows h w m) → AreCells (m .free)
-cells h w m s =
-    free-cells (m .cells) (m .heap) (m .free) (shown-stored h w m s .cells) (omega (arith, s .valid .kept .fits, s .valid .means .cells))
-
--- Head and words show one model at most.
-pub one-model : (h : Head) (w : List ℕ) (m m′ : Model) → Shows h w m → Shows h w m′ → m ≡ m′
-one-model h w m m′ s s′ =
-    model-same m m′
-    (sym (s .arity) ∙ s′ .arity)
-    (entries-ext (m .heap) (m′ .heap) long each)
-    (sym (s .counter) ∙ s′ .counter)
-    (sym (s .cells) ∙ s′ .cells)
-    (chain-same (link w) (h .store .free) (m .free) (m′ .free) (s .free) (s′ .free) (cells h w m s) (cells h w m′ s′))
-  where
-    long : length (m .heap) ≡ length (m′ .heap)
-    long = sym (s .count) ∙ s′ .count
-
-    each : (p : ℕ) → p < length (m .heap) → at (m .heap) p ≡ at (m′ .heap) p
-    each p l =
-        let k : p < length (m′ .heap) = omega (arith, long) in
-        carried-one w (at (m .heap) p) (at (m′ .heap) p) (sym (s .seats .table p l) ∙ s′ .seats .table p k)
-        (carried-at h w m s p l) (carried-at h w m′ s′ p k)
 
 module _ (h h′ : Head) (w w′ : List ℕ) (m : Model) (s : Shows h w m) (s′ : Shows h′ w′ m) where
   -- The head is one.
