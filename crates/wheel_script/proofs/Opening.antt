@@ -1,10 +1,10 @@
 -- Set-up of a wheel of 1 to 512 cells by the first line, and the lines after it.
 -- Assumes nothing.
-use Prim.Native.Nat.{ℕ, _+_, _*_, _/_, _≤_, _<_, min}
+use Prim.Native.Nat.{ℕ, _+_, _*_, _/_, _≤_, _<_}
 use native.Mathlib.Omega.{arith}
-use mathlib.Core.Bool.{true, false}
+use mathlib.Core.Bool.{false}
 use mathlib.Core.List.{List, _++_}
-use mathlib.Core.Path.{_≡_, refl, sym, ap, subst, _∙_}
+use mathlib.Core.Path.{_≡_, refl, ap, subst, _∙_}
 use lib.ListN.{length, take, drop, replicate}
 use lib.Seq.{take-at}
 use borrow.Author.Tests.{lt-ltb, le-ltb}
@@ -25,12 +25,10 @@ use Rattle.wheel.proofs.SetUpShown.{set-up-shows}
 use Rattle.script.specs.Answers.{Laid}
 use Rattle.script.specs.Grammar.{readLine}
 use Rattle.script.proofs.Laying.{laid-as, laid-none}
-use Rattle.slots.specs.Rings.{Lists}
 use Rattle.wheel_script.specs.Commands.{commandOf}
 use Rattle.wheel_script.specs.Texts.{badText, refusedText, readyText}
 use Rattle.wheel_script.specs.Spoken.{callOf, Obeyed}
-use Rattle.wheel_script.specs.Runs.{Place, Before, Running, Ended, openingOf, openingText, openingPlace, callText, callModel, printed, following, Blank, Opened, Stands, Begun, Answered}
-use Rattle.wheel_script.specs.declared.commands.Opening.{Opening}
+use Rattle.wheel_script.specs.Runs.{Place, Before, Ended, openingOf, openingText, openingPlace, callModel, printed, following, Blank, Opened, Stands, Reached, Begun, Answered}
 use Rattle.wheel_script.specs.declared.commands.Opening.the-variants as opening
 use Rattle.wheel_script.specs.declared.serving.Session.{Session}
 use Rattle.wheel_script.specs.declared.serving.Session.the-variants as session
@@ -159,3 +157,16 @@ module _ (was : Session) (w first last marks line out : List ℕ) (at : ℕ) (p 
   answered-over e h s =
       let over : p ≡ Ended = subst (λ (x : Session). Stands x w first last marks p) e s in
       rw over (record { stands = refl; lines = laid-none out at at (omega arith) })
+
+-- From any place of a run an answered line reaches the next.
+pub reached-on : (was now : Session) (w first last marks line out : List ℕ) (at : ℕ) (w′ first′ last′ marks′ out′ : List ℕ) (end : ℕ)
+    → Reached was w first last marks
+    → ((p : Place) → Stands was w first last marks p → Answered p line out at now w′ first′ last′ marks′ out′ end)
+    → Reached now w′ first′ last′ marks′
+reached-on was now w first last marks line out at w′ first′ last′ marks′ out′ end reached told =
+    record { place = following (reached .place) line; stands = told (reached .place) (reached .stands) .stands }
+
+-- A run begins.
+pub reached-first : (w first last marks : List ℕ) → Blank w first last marks Before → Reached session.Fresh w first last marks
+unfolding Stands
+reached-first w first last marks blank = record { place = Before; stands = blank }

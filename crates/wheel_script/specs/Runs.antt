@@ -90,6 +90,11 @@ Stands session.Fresh w first last marks p = Blank w first last marks p
 Stands (session.Open n d) w first last marks p = Opened n d w first last marks p
 Stands session.Over w first last marks p = p ≡ Ended
 
+-- Session, words and arrays stand at some place of a run.
+pub record Reached (session : Session) (w first last marks : List ℕ) : Type 0 where
+  pub place : Place
+  pub stands : Stands session w first last marks place
+
 -- The first line is answered.
 pub record Begun (x : Opening) (out : List ℕ) (at : ℕ) (session : Session) (w first last marks out′ : List ℕ) (end : ℕ) : Type 0 where
   pub stands : Stands session w first last marks (openingPlace x)
