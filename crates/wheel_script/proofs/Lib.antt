@@ -1,4 +1,5 @@
 -- Laws of the wheel's script.
 pub mod Firing
-pub mod Rooms
+pub mod Ranges
 pub mod Speaking
+pub mod Opening

@@ -2,6 +2,7 @@
 -- Assumes nothing.
 use Prim.Native.Nat.{ℕ}
 use mathlib.Core.List.{List}
+use mathlib.Core.Option.{Option, none, some}
 use mathlib.Core.Path.{_≡_}
 use Rattle.script.specs.Answers.{Laid}
 use Rattle.meaning.specs.Calls.{Call, Arm, Move, Cancel, Advance, Answer}
@@ -24,11 +25,16 @@ pub record Spurned (l : Lists) (d : Dial) (out : List ℕ) (at : ℕ) (l′ : Li
   pub dial : d′ ≡ d
   pub line : Laid out at badText out′ end
 
--- Each command as its call; a wheel is set up by the first line alone.
-unfoldable pub Obeyed : Command → Lists → Dial → List ℕ → ℕ → Lists → Dial → List ℕ → ℕ → Type 0
-Obeyed command.Bad l d out at l′ d′ out′ end = Spurned l d out at l′ d′ out′ end
-Obeyed (command.Wheel n t) l d out at l′ d′ out′ end = Spurned l d out at l′ d′ out′ end
-Obeyed (command.Arm e x) l d out at l′ d′ out′ end = Spoken (Arm e x) l d out at l′ d′ out′ end
-Obeyed (command.Cancel c k) l d out at l′ d′ out′ end = Spoken (Cancel c k) l d out at l′ d′ out′ end
-Obeyed (command.Move c k e) l d out at l′ d′ out′ end = Spoken (Move c k e) l d out at l′ d′ out′ end
-Obeyed (command.Advance t r) l d out at l′ d′ out′ end = Spoken (Advance t r) l d out at l′ d′ out′ end
+-- The call of a command; a wheel is set up by the first line alone.
+unfoldable pub callOf : Command → Option Call
+callOf command.Bad = none
+callOf (command.Wheel n t) = none
+callOf (command.Arm e x) = some (Arm e x)
+callOf (command.Cancel c k) = some (Cancel c k)
+callOf (command.Move c k e) = some (Move c k e)
+callOf (command.Advance t r) = some (Advance t r)
+
+-- A line after the first: its call, or a bad line.
+unfoldable pub Obeyed : Option Call → Lists → Dial → List ℕ → ℕ → Lists → Dial → List ℕ → ℕ → Type 0
+Obeyed none l d out at l′ d′ out′ end = Spurned l d out at l′ d′ out′ end
+Obeyed (some call) l d out at l′ d′ out′ end = Spoken call l d out at l′ d′ out′ end

@@ -13,7 +13,7 @@ ghost use Rattle.script.specs.Grammar.{readLine};
 ghost use Rattle.meaning.specs.Calls.{Arm, Move, Cancel, Advance};
 ghost use Rattle.dial.specs.Lent.{listsOf};
 ghost use Rattle.wheel_script.specs.Commands.{commandOf};
-ghost use Rattle.wheel_script.specs.Spoken.{Spoken, Spurned, Obeyed};
+ghost use Rattle.wheel_script.specs.Spoken.{Spoken, Spurned, callOf, Obeyed};
 
 // What a command leaves: where its answer ends in the output, and the wheel's numbers.
 pub struct Said {
@@ -168,7 +168,7 @@ pub fn obey(
     line: &[u8],
 ) -> Said
     ensures { λ r. ⌜
-        Obeyed (commandOf (readLine (now (line .entry)))) (listsOf (now (w .entry)) (now (first .entry)) (now (last .entry)) (now (marks .entry)) (d .due)) d (now (out .entry)) at
+        Obeyed (callOf (commandOf (readLine (now (line .entry))))) (listsOf (now (w .entry)) (now (first .entry)) (now (last .entry)) (now (marks .entry)) (d .due)) d (now (out .entry)) at
         (listsOf (now (w .exit)) (now (first .exit)) (now (last .exit)) (now (marks .exit)) (r .dial .due)) (r .dial) (now (out .exit)) (r .end)
         ⌝ }
 {

@@ -5,6 +5,7 @@ use script::reading::read_line;
 ghost use mathlib.Core.Path.{_≡_};
 ghost use Rattle.script.specs.Grammar.{readLine};
 ghost use Rattle.wheel_script.specs.Commands.{wheelOf, advanceOf, ofTwo, ofThree, ofCount, commandOf};
+ghost use Rattle.wheel_script.specs.Runs.{openingOf};
 
 // Each command with its numbers, in the order of the line.
 pub enum Command {
@@ -14,6 +15,12 @@ pub enum Command {
     Cancel(u64, u64),
     Move(u64, u64, u64),
     Advance(u64, u64),
+}
+
+// What a first line sets up: so many cells and the start clock, or nothing.
+pub enum Opening {
+    Wrong,
+    Wheel(u64, u64),
 }
 
 // The words as `read_line` reads them: bytes as a base-256 number.
@@ -103,5 +110,19 @@ pub fn read_command(line: &[u8]) -> Command
             b,
             c,
         } => of_count(word, count, a, b, c),
+    }
+}
+
+// A command as the first of a run: only one that sets a wheel up is right there.
+pub fn as_first(command: Command) -> Opening
+    ensures { λ r. ⌜ r ≡ openingOf command ⌝ }
+{
+    match command {
+        Command::Wheel(n, t) => Opening::Wheel(n, t),
+        Command::Arm(_, _) => Opening::Wrong,
+        Command::Cancel(_, _) => Opening::Wrong,
+        Command::Move(_, _, _) => Opening::Wrong,
+        Command::Advance(_, _) => Opening::Wrong,
+        Command::Bad => Opening::Wrong,
     }
 }

@@ -17,6 +17,7 @@ use script::scan::next;
 ghost use Prim.Native.Nat.{_≤_};
 ghost use lib.ListN.{length};
 ghost use Rattle.wheel_script.specs.Sessions.{wordsOf, Within};
+ghost use Rattle.wheel_script.specs.Runs.{Before, Blank, Reached};
 
 // Writes out what stands before `at` where the next answer may not fit behind it: the longest answers an advance, by 64 lines of at most 90 bytes and one of at most 60.
 fn flushed(out: &[u8], at: usize) -> usize
@@ -41,7 +42,9 @@ fn answer_lines(
     session: Session,
 ) -> Turn
     requires { ⌜ wordsOf session ≤ length (now w) ⌝ }
-    ensures { λ r. ⌜ Within r (length (now (s .entry))) (length (now (w .entry))) ⌝ }
+    requires { ⌜ Reached session (now w) (now first) (now last) (now marks) ⌝ }
+    ensures within { λ r. ⌜ Within r (length (now (s .entry))) (length (now (w .entry))) ⌝ }
+    ensures reached { λ r. ⌜ Reached (r .session) (now (w .exit)) (now (first .exit)) (now (last .exit)) (now (marks .exit)) ⌝ }
 {
     let mut run = session;
     let mut at = 0;
@@ -82,7 +85,9 @@ fn advance(
 ) -> Step
     requires { ⌜ held ≤ length (now buf) ⌝ }
     requires { ⌜ wordsOf session ≤ length (now w) ⌝ }
-    ensures { λ r. ⌜ (r .held ≤ length (now (buf .entry))) × (wordsOf (r .session) ≤ length (now (w .entry))) ⌝ }
+    requires { ⌜ Reached session (now w) (now first) (now last) (now marks) ⌝ }
+    ensures within { λ r. ⌜ (r .held ≤ length (now (buf .entry))) × (wordsOf (r .session) ≤ length (now (w .entry))) ⌝ }
+    ensures reached { λ r. ⌜ Reached (r .session) (now (w .exit)) (now (first .exit)) (now (last .exit)) (now (marks .exit)) ⌝ }
 {
     let room = &mut buf[held..];
     let got = io::count(libc::read(STDIN_FILENO, room), room);
@@ -112,7 +117,9 @@ fn read_all(
     last: &mut [u16],
     marks: &mut [u64],
 ) -> Step
-    ensures { λ r. ⌜ (r .held ≤ length (now (buf .entry))) × (wordsOf (r .session) ≤ length (now (w .entry))) ⌝ }
+    requires { ⌜ Blank (now w) (now first) (now last) (now marks) Before ⌝ }
+    ensures within { λ r. ⌜ (r .held ≤ length (now (buf .entry))) × (wordsOf (r .session) ≤ length (now (w .entry))) ⌝ }
+    ensures reached { λ r. ⌜ Reached (r .session) (now (w .exit)) (now (first .exit)) (now (last .exit)) (now (marks .exit)) ⌝ }
 {
     let mut step = Step {
         held: 0,
@@ -140,7 +147,9 @@ fn run(
     first: &mut [u16],
     last: &mut [u16],
     marks: &mut [u64],
-) {
+)
+    requires { ⌜ Blank (now w) (now first) (now last) (now marks) Before ⌝ }
+{
     let step = read_all(buf, out, w, first, last, marks);
     let held = step.held;
     if held > 0 {

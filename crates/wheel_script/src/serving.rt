@@ -4,15 +4,21 @@ use crate::answers::bad_line;
 use crate::answers::ready;
 use crate::answers::refused;
 use crate::calls::obey;
-use crate::commands::Command;
+use crate::commands::Opening;
+use crate::commands::as_first;
 use crate::commands::read_command;
 use wheel::head::Dial;
 use wheel::head::SetUpAnswer;
 use wheel::setup::set_up;
 ghost use mathlib.Core.Path.{_≡_};
-ghost use Prim.Native.Nat.{_≤_};
+ghost use Prim.Native.Nat.{ℕ, _≤_};
+ghost use mathlib.Core.List.{List};
 ghost use lib.ListN.{length};
 ghost use Rattle.wheel_script.specs.Sessions.{wordsOf, goesOn, Within};
+ghost use Rattle.script.specs.Grammar.{readLine};
+ghost use Rattle.wheel_script.specs.Commands.{commandOf};
+ghost use Rattle.wheel_script.specs.Runs.{Place, Before, openingOf, Blank, Begun, Stands, Answered};
+ghost use Rattle.wheel_script.specs.declared.commands.Opening.the-variants as opening;
 
 // Where a run stands: before its first line, with a wheel in so many of the words, or ended by its first line.
 pub enum Session {
@@ -27,23 +33,22 @@ pub struct Turn {
     pub session: Session,
 }
 
-fn over(end: usize) -> Turn
-    ensures { λ r. ⌜ Within r end 0 ⌝ }
-{
-    Turn {
-        end,
-        session: Session::Over,
-    }
-}
-
 // Sets a wheel of n cells up: a bad line where the words hold fewer.
 // A run opens one wheel at most, so that the lent arrays are those of an empty wheel still, and the head's are not copied into them.
 fn open(out: &mut [u8], at: usize, w: &mut [u64], n: u64, t: u64) -> Turn
-    ensures { λ r. ⌜ Within r (length (now (out .entry))) (length (now (w .entry))) ⌝ }
+    requires { ⌜ (1 ≤ n) × (n ≤ 512) ⌝ }
+    ensures within { λ r. ⌜ Within r (length (now (out .entry))) (length (now (w .entry))) ⌝ }
+    ensures told { λ r. ⌜
+        ((first last marks : List ℕ) → Blank (now (w .entry)) first last marks Before
+        → Begun (opening.Wheel n t) (now (out .entry)) at (r .session) (now (w .exit)) first last marks (now (out .exit)) (r .end))
+        ⌝ }
 {
     let cells = n as usize;
     if cells > w.len() / 8 {
-        return over(bad_line(out, at));
+        return Turn {
+            end: bad_line(out, at),
+            session: Session::Over,
+        };
     }
     let words = cells * 8;
     let made = set_up(&mut w[..words], t);
@@ -51,7 +56,10 @@ fn open(out: &mut [u8], at: usize, w: &mut [u64], n: u64, t: u64) -> Turn
     let head = made.head;
     let dial = head.dial;
     match answer {
-        SetUpAnswer::Refused(i) => over(refused(out, at, i)),
+        SetUpAnswer::Refused(i) => Turn {
+            end: refused(out, at, i),
+            session: Session::Over,
+        },
         SetUpAnswer::Ready => Turn {
             end: ready(out, at, n, t),
             session: Session::Open(words, dial),
@@ -61,11 +69,18 @@ fn open(out: &mut [u8], at: usize, w: &mut [u64], n: u64, t: u64) -> Turn
 
 // Answers the first line.
 fn begin(out: &mut [u8], at: usize, w: &mut [u64], line: &[u8]) -> Turn
-    ensures { λ r. ⌜ Within r (length (now (out .entry))) (length (now (w .entry))) ⌝ }
+    ensures within { λ r. ⌜ Within r (length (now (out .entry))) (length (now (w .entry))) ⌝ }
+    ensures told { λ r. ⌜
+        ((first last marks : List ℕ) → Blank (now (w .entry)) first last marks Before
+        → Begun (openingOf (commandOf (readLine (now (line .entry))))) (now (out .entry)) at (r .session) (now (w .exit)) first last marks (now (out .exit)) (r .end))
+        ⌝ }
 {
-    match read_command(line) {
-        Command::Wheel(n, t) => open(out, at, w, n, t),
-        _ => over(bad_line(out, at)),
+    match as_first(read_command(line)) {
+        Opening::Wheel(n, t) => open(out, at, w, n, t),
+        Opening::Wrong => Turn {
+            end: bad_line(out, at),
+            session: Session::Over,
+        },
     }
 }
 
@@ -82,7 +97,11 @@ pub fn answer(
 ) -> Turn
     requires { ⌜ at ≤ length (now out) ⌝ }
     requires { ⌜ wordsOf session ≤ length (now w) ⌝ }
-    ensures { λ r. ⌜ Within r (length (now (out .entry))) (length (now (w .entry))) ⌝ }
+    ensures within { λ r. ⌜ Within r (length (now (out .entry))) (length (now (w .entry))) ⌝ }
+    ensures told { λ r. ⌜
+        ((p : Place) → Stands session (now (w .entry)) (now (first .entry)) (now (last .entry)) (now (marks .entry)) p
+        → Answered p (now (line .entry)) (now (out .entry)) at (r .session) (now (w .exit)) (now (first .exit)) (now (last .exit)) (now (marks .exit)) (now (out .exit)) (r .end))
+        ⌝ }
 {
     match session {
         Session::Fresh => begin(out, at, w, line),
@@ -94,7 +113,10 @@ pub fn answer(
                 session: Session::Open(n, dial),
             }
         }
-        Session::Over => over(at),
+        Session::Over => Turn {
+            end: at,
+            session: Session::Over,
+        },
     }
 }
 

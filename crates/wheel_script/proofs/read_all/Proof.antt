@@ -3,6 +3,8 @@ use Prim.Native.Nat.{_≤_}
 use mathlib.Core.Path.{_≡_}
 use lib.ListN.{length}
 use Rattle.wheel_script.specs.Sessions.{wordsOf}
+use Rattle.wheel_script.specs.Runs.{Reached}
+use Rattle.wheel_script.proofs.Opening.{reached-first}
 use borrow.Author.Needs.{needs}
 use Rattle.wheel_script.proofs.read_all.Statement.{statement}
 use Rattle.wheel_script.proofs.read_all.Tie as tie
@@ -10,17 +12,17 @@ use Rattle.wheel_script.proofs.read_all.Tie as tie
 abbrev Inv-loop : tie.InvT-loop
 Inv-loop buf₀ out₀ w₀ first₀ last₀ marks₀ step₀ turns₀ buf out w first last marks step turns =
     (step .held ≤ length buf) × (wordsOf (step .session) ≤ length w) × (length buf ≡ length buf₀) × (length out ≡ length out₀) × (length w ≡ length w₀)
-    × (length first ≡ length first₀) × (length last ≡ length last₀) × (length marks ≡ length marks₀)
+    × (length first ≡ length first₀) × (length last ≡ length last₀) × (length marks ≡ length marks₀) × Reached (step .session) w first last marks
 
 abbrev μ-loop : tie.MeasureT-loop
 μ-loop buf₀ out₀ w₀ first₀ last₀ marks₀ step₀ turns₀ buf out w first last marks step turns = turns
 
 loop-holds : tie.Need-loop-holds Inv-loop μ-loop
 unfolding wordsOf
-loop-holds c = search needs
+loop-holds c = (search needs, search needs, search needs, search needs, search needs, search needs, search needs, search needs, reached-first _ _ _ _ (search needs))
 
 advance-requires : tie.Need-advance-requires Inv-loop μ-loop
-advance-requires c κs = search needs
+advance-requires c κs = let inv = c .before .before .before .before .before .before .before .loop .inv in (inv .0, (inv .1, inv .8))
 
 same-length : tie.Need-same-length Inv-loop μ-loop
 same-length c = search needs
@@ -50,7 +52,7 @@ loop-less : tie.Need-loop-less Inv-loop μ-loop
 loop-less c = search needs
 
 loop-again : tie.Need-loop-again Inv-loop μ-loop
-loop-again c = search needs
+loop-again c = (search needs, search needs, search needs, search needs, search needs, search needs, search needs, search needs, c .before .before .before .before .before .before .before .before .before .before .before .before .before .before .advance .ensures .1)
 
 same-length-7 : tie.Need-same-length-7 Inv-loop μ-loop
 same-length-7 c = search needs

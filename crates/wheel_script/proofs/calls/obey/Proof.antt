@@ -1,7 +1,7 @@
 -- `wheel_script::calls::obey` meets its contract: each command by its call, and only a room of at most 64 is given. Assumes nothing.
 use mathlib.Core.Path.{sym, _∙_}
-use Rattle.wheel_script.specs.Spoken.{Obeyed}
-use Rattle.wheel_script.proofs.Rooms.{room-bound}
+use Rattle.wheel_script.specs.Spoken.{callOf, Obeyed}
+use Rattle.wheel_script.proofs.Ranges.{room-bound}
 use borrow.Author.Needs.{needs}
 use Rattle.wheel_script.proofs.calls.obey.Statement.{statement}
 use Rattle.wheel_script.proofs.calls.obey.Tie as tie
@@ -61,7 +61,7 @@ same-length-5 : tie.Need-same-length-5
 same-length-5 c = search needs
 
 returns : tie.Need-returns
-unfolding Obeyed
+unfolding callOf Obeyed
 returns c = rw (sym (c .before .before .before .before .before .before .before .before .before .before .before .before .before .before .before .before .before .before .before .read-command .ensures) ∙ c .before .before .before .before .before .before .before .before .before .before .before .before .before .before .before .before .before .e .given .1) (c .before .before .before .before .before .before .before .before .before .before .arm .ensures)
 
 same-length-6 : tie.Need-same-length-6
@@ -80,7 +80,7 @@ same-length-10 : tie.Need-same-length-10
 same-length-10 c = search needs
 
 returns-2 : tie.Need-returns-2
-unfolding Obeyed
+unfolding callOf Obeyed
 returns-2 c = rw (sym (c .before .before .before .before .before .before .before .before .before .before .before .before .before .before .before .before .before .before .before .read-command .ensures) ∙ c .before .before .before .before .before .before .before .before .before .before .before .before .before .before .before .before .before .c .given .1) (c .before .before .before .before .before .before .before .before .before .before .cancel .ensures)
 
 same-length-11 : tie.Need-same-length-11
@@ -99,7 +99,7 @@ same-length-15 : tie.Need-same-length-15
 same-length-15 c = search needs
 
 returns-3 : tie.Need-returns-3
-unfolding Obeyed
+unfolding callOf Obeyed
 returns-3 c = rw (sym (c .before .before .before .before .before .before .before .before .before .before .before .before .before .before .before .before .before .before .before .read-command .ensures) ∙ c .before .before .before .before .before .before .before .before .before .before .before .before .before .before .before .before .before .c2 .given .1) (c .before .before .before .before .before .before .before .before .before .before .move-to .ensures)
 
 same-length-16 : tie.Need-same-length-16
@@ -118,21 +118,21 @@ same-length-20 : tie.Need-same-length-20
 same-length-20 c = search needs
 
 returns-4 : tie.Need-returns-4
-unfolding Obeyed
+unfolding callOf Obeyed
 returns-4 c = rw (sym (c .before .before .before .before .before .before .before .before .before .before .before .before .before .before .before .before .before .before .before .read-command .ensures) ∙ c .before .before .before .before .before .before .before .before .before .before .before .before .before .before .before .before .before .t .given .1) (c .before .before .before .before .before .before .before .before .before .before .advance .ensures)
 
 same-length-21 : tie.Need-same-length-21
 same-length-21 c = search needs
 
 returns-5 : tie.Need-returns-5
-unfolding Obeyed
+unfolding callOf Obeyed
 returns-5 c = rw (sym (c .before .before .before .before .before .before .read-command .ensures) ∙ c .before .before .before .before .enum-told .given .1) (c .before .before .spurn .ensures _ _ _ _)
 
 same-length-22 : tie.Need-same-length-22
 same-length-22 c = search needs
 
 returns-6 : tie.Need-returns-6
-unfolding Obeyed
+unfolding callOf Obeyed
 returns-6 c = rw (sym (c .before .before .before .before .before .before .read-command .ensures) ∙ c .before .before .before .before .enum-told2 .given .1) (c .before .before .spurn2 .ensures _ _ _ _)
 
 pub obey-spec : {M : Type 1} → statement M

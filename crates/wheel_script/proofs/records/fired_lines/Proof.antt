@@ -1,8 +1,6 @@
 -- `wheel_script::records::fired_lines` meets its contract. The loop's invariant: the lines of the first i records are laid.
 -- The measure is what is left of them. Assumes nothing.
-use Prim.Native.Nat.{ℕ, _-_, _≤_}
-use native.Mathlib.Omega.{arith}
-use mathlib.Core.Path.{_≡_}
+use Prim.Native.Nat.{_-_, _≤_}
 use borrow.Author.Needs.{needs}
 use Rattle.script.specs.Answers.{Laid}
 use Rattle.script.proofs.Laying.{laid-long}

@@ -1,7 +1,9 @@
--- `wheel_script::serving::open` meets its contract: a wheel is opened only within the words. Assumes nothing.
+-- `wheel_script::serving::open` meets its contract: a wheel is opened only within the words, and as the run on the plain list opens it. Assumes nothing.
+use native.Mathlib.Omega.{arith}
 use mathlib.Core.Path.{sym}
 use lib.Seq.{length-take-le}
 use Rattle.wheel_script.specs.Sessions.{wordsOf}
+use Rattle.wheel_script.proofs.Opening.{begun-refused, begun-ready}
 use borrow.Author.Needs.{needs}
 use Rattle.wheel_script.proofs.serving.open.Statement.{statement}
 use Rattle.wheel_script.proofs.serving.open.Tie as tie
@@ -9,14 +11,12 @@ use Rattle.wheel_script.proofs.serving.open.Tie as tie
 bad-line-requires : tie.Need-bad-line-requires
 bad-line-requires c κs = search needs
 
-over-requires : tie.Need-over-requires
-over-requires c κs = search needs
-
 same-length : tie.Need-same-length
 same-length c = search needs
 
 returns : tie.Need-returns
-returns c = search needs
+unfolding wordsOf
+returns c = (search needs, λ first last marks blank. absurd (omega (arith, blank .words, c .before .before .before .before .if1 .taken, c .before .before .before .before .before .before .before .pre)))
 
 mul-words : tie.Need-mul-words
 mul-words c = search needs
@@ -36,9 +36,6 @@ enum-known-answer c = search needs
 refused-requires : tie.Need-refused-requires
 refused-requires c κs = search needs
 
-over-requires-2 : tie.Need-over-requires-2
-over-requires-2 c κs = search needs
-
 enum-told : tie.Need-enum-told
 enum-told c = search needs
 
@@ -52,7 +49,15 @@ same-length-3 : tie.Need-same-length-3
 same-length-3 c = search needs
 
 returns-2 : tie.Need-returns-2
-returns-2 c = search needs
+unfolding wordsOf
+returns-2 c =
+    let start = c .before .before .before .before .before .before .before .before .before .before .before .before .before .before .before .before in
+    let set = c .before .before .before .before .before .before .before .before .before .before .before in (
+      search needs,
+      λ first last marks blank.
+          begun-refused _ _ _ (sym (slice-aggregate-set-up (set .before))) (start .pre .0) (start .pre .1) _ _ _ _ _ _ _ _ _ _ (set .set-up .ensures .0)
+          (c .before .before .before .before .before .answer .given .1) (c .before .before .refused .ensures),
+    )
 
 same-length-4 : tie.Need-same-length-4
 same-length-4 c = search needs
@@ -62,14 +67,21 @@ same-length-5 c = search needs
 
 returns-3 : tie.Need-returns-3
 unfolding wordsOf
-returns-3 c = search needs
+returns-3 c =
+    let start = c .before .before .before .before .before .before .before .before .before .before .before .before .before .before .before in
+    let set = c .before .before .before .before .before .before .before .before .before .before in (
+      search needs,
+      λ first last marks blank.
+          begun-ready _ _ _ (sym (slice-aggregate-set-up (set .before))) (start .pre .0) (start .pre .1) _ _ _ _ _ _ _ _ _ _ _ (set .set-up .ensures .0)
+          (c .before .before .before .before .enum-told .given .1) (set .set-up .ensures .1 .0) (set .set-up .ensures .1 .1) (blank .firsts) (blank .lasts) (blank .unmarked)
+          (c .before .before .ready .ensures),
+    )
 
 pub open-spec : {M : Type 1} → statement M
 open-spec =
     tie.close
     (tie.spec
     bad-line-requires
-    over-requires
     same-length
     returns
     mul-words
@@ -78,7 +90,6 @@ open-spec =
     set-up-requires
     enum-known-answer
     refused-requires
-    over-requires-2
     enum-told
     ready-requires
     same-length-2
