@@ -17,7 +17,7 @@ use Rattle.places.specs.Ticks.{lastTick}
 use Rattle.dial.specs.Lent.{listsOf}
 use Rattle.wheel.specs.Promise.{headLists, DialShows}
 use Rattle.wheel.specs.SetUps.{setUpCauses, emptyHead, freshStore, setUpAnswer, setUpHead, setUpWords}
-use Rattle.wheel.specs.declared.head.Dial.{Dial}
+use Rattle.dial.specs.declared.state.Dial.{Dial}
 use Rattle.wheel.specs.declared.head.SetUpAnswer.{SetUpAnswer}
 use Rattle.wheel.specs.declared.head.SetUpAnswer.the-variants as setUp
 use Rattle.wheel.specs.declared.head.Head.{Head}

@@ -12,7 +12,7 @@ use Rattle.meaning.specs.Calls.{Call, Advance}
 use Rattle.meaning.specs.Plain.{Plain}
 use Rattle.wheel.specs.Promise.{DialShows}
 use Rattle.slots.specs.Rings.{Lists}
-use Rattle.wheel.specs.declared.head.Dial.{Dial}
+use Rattle.dial.specs.declared.state.Dial.{Dial}
 use Rattle.wheel_script.specs.Spoken.{Spoken, Obeyed}
 use Rattle.wheel_script.specs.Texts.{answerText}
 use Rattle.wheel_script.specs.Runs.{callText, callModel}

@@ -14,7 +14,7 @@ use Rattle.meaning.specs.Plain.{Plain, fresh}
 use Rattle.dial.specs.Joined.{step}
 use Rattle.dial.specs.Lent.{listsOf}
 use Rattle.wheel.specs.Promise.{DialShows}
-use Rattle.wheel.specs.declared.head.Dial.{Dial}
+use Rattle.dial.specs.declared.state.Dial.{Dial}
 use Rattle.wheel_script.specs.Commands.{commandOf}
 use Rattle.wheel_script.specs.Texts.{badText, refusedText, readyText, answerText}
 use Rattle.wheel_script.specs.Spoken.{callOf}

@@ -8,7 +8,7 @@ use Rattle.script.specs.Answers.{Laid}
 use Rattle.meaning.specs.Calls.{Call, Arm, Move, Cancel, Advance, Answer}
 use Rattle.slots.specs.Rings.{Lists}
 use Rattle.wheel.specs.Promise.{Promise}
-use Rattle.wheel.specs.declared.head.Dial.{Dial}
+use Rattle.dial.specs.declared.state.Dial.{Dial}
 use Rattle.wheel_script.specs.Texts.{badText, answerText}
 use Rattle.wheel_script.specs.declared.commands.Command.{Command}
 use Rattle.wheel_script.specs.declared.commands.Command.the-variants as command
