@@ -2,7 +2,6 @@
 pub mod Cases
 pub mod Lists
 pub mod Sums
-pub mod Below
 pub mod Chains
 pub mod Memory
 pub mod Places
@@ -10,18 +9,7 @@ pub mod Rows
 pub mod Known
 pub mod Fresh
 pub mod Claims
-pub mod Sorting
-pub mod Merging
-pub mod Halves
-pub mod CellOrder
-pub mod CellSort
 pub mod Stacks
 pub mod StackTable
-pub mod Steps
-pub mod Rules
 pub mod Used
-pub mod Masks
-pub mod Distinct
-pub mod Audits
 pub mod Framed
-pub mod Stability

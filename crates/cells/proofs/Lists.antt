@@ -105,3 +105,9 @@ all-image P f (x ∷ xs) h = (h .0, all-image P f xs (h .1))
 pub all-append : {A : Type 0} (P : A → Type 0) (xs ys : List A) → All P xs → All P ys → All P (xs ++ ys)
 all-append P [] ys h k = k
 all-append P (x ∷ xs) ys h k = (h .0, all-append P xs ys (h .1) k)
+
+-- What holds of all elements holds of one that stands there.
+pub all-times : (P : ℕ → Type 0) (xs : List ℕ) → All P xs → (x : ℕ) → 1 ≤ times x xs → P x
+all-times P [] a x h = absurd (unfold times in omega arith)
+all-times P (y ∷ ys) a x h =
+    same? y x (λ q. rw q at (a .0)) (λ d. all-times P ys (a .1) x (omega (arith, times-past x y ys d)))

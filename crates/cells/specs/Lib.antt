@@ -2,7 +2,5 @@
 pub mod Lists
 pub mod Words
 pub mod Store
-pub mod Sorted
 pub mod Stack
 pub mod Rules
-pub mod AuditTests

@@ -1,7 +1,5 @@
 // Cells in lent memory: eight words to a cell.
 
-pub mod audit;
-pub mod sort;
 pub mod stack;
 pub mod store;
 pub mod words;

@@ -1,6 +1,6 @@
 // Tries the shared audit on a small store as calls leave it, and on the same memory with one thing broken, and prints each verdict.
 
-use cells::audit::audit;
+use audits::audit::audit;
 use cells::store::SetUp;
 use cells::store::Store;
 use cells::store::claim;

@@ -1,6 +1,6 @@
 // The shared audit for programs in other languages, on plain numbers and lent words: the benchmark links it.
 
-use cells::audit::audit;
+use audits::audit::audit;
 use cells::store::Store;
 ghost use mathlib.Core.Bool.{true};
 ghost use mathlib.Core.Logic.{_↔_};

@@ -7,8 +7,7 @@ use mathlib.Core.Path.{_≡_, refl, sym, ap, _∙_}
 use lib.ListN.{length}
 use Rattle.cells.specs.Lists.{All, times}
 use Rattle.cells.proofs.Cases.{same?}
-use Rattle.cells.proofs.Lists.{times-here, times-past}
-use Rattle.cells.proofs.Distinct.{all-times}
+use Rattle.cells.proofs.Lists.{all-times, times-here, times-past}
 use Rattle.meaning.specs.Entries.{Entry}
 use Rattle.meaning.specs.Heap.{at, exchange, rise, settle}
 use Rattle.meaning.proofs.ByPosition.{one-position}

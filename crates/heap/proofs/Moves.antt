@@ -11,9 +11,8 @@ use lib.ListN.{length}
 use borrow.Author.Tests.{eq-eqb, ne-eqb}
 use Rattle.cells.specs.Lists.{All, times, sumBelow}
 use Rattle.cells.proofs.Cases.{same?, and-false}
-use Rattle.cells.proofs.Lists.{times-here, times-past}
+use Rattle.cells.proofs.Lists.{all-times, times-here, times-past}
 use Rattle.cells.proofs.Sums.{sumBelow-same, sumBelow-most, length-times}
-use Rattle.cells.proofs.Distinct.{all-times}
 use Rattle.meaning.specs.Entries.{Entry}
 use Rattle.meaning.specs.Heap.{at, holds, movedFrom, heapMoves}
 use Rattle.meaning.proofs.Handles.{ticketOf}

@@ -9,8 +9,7 @@ use lib.Seq.{getD-set-other, getD-take, length-take-le}
 use borrow.Author.Tests.{eq-eqb, ne-eqb}
 use Rattle.cells.specs.Lists.{All, times}
 use Rattle.cells.proofs.Cases.{same?}
-use Rattle.cells.proofs.Lists.{times-here, times-past}
-use Rattle.cells.proofs.Distinct.{all-times}
+use Rattle.cells.proofs.Lists.{all-times, times-here, times-past}
 use Rattle.meaning.specs.Entries.{Entry, nobody}
 use Rattle.meaning.specs.Heap.{at, settle, heapRemove, heapMoves, levels}
 use Rattle.meaning.proofs.Handles.{ticketOf}

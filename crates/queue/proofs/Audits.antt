@@ -11,10 +11,10 @@ use borrow.Author.Tests.{leb-true, le-leb, ltb-true, lt-ltb, le-ltb, eqb-true, e
 use Rattle.cells.specs.Words.{word}
 use Rattle.cells.specs.Stack.{isFree}
 use Rattle.cells.specs.Rules.{inUse, Sound}
-use Rattle.cells.specs.AuditTests.{allBelow, sharedTest}
+use Rattle.audits.specs.AuditTests.{allBelow, sharedTest}
 use Rattle.cells.proofs.Cases.{test, same?, atMost?, clash, and-true, or-true}
-use Rattle.cells.proofs.Below.{below-each, each-below}
-use Rattle.cells.proofs.Audits.{shared-decides}
+use Rattle.audits.proofs.Below.{below-each, each-below}
+use Rattle.audits.proofs.Audits.{shared-decides}
 use Rattle.cells.proofs.Used.{in-use-free, not-free-used}
 use Rattle.meaning.specs.Heap.{parent}
 use Rattle.heap.specs.Seats.{ranked, seatAt}

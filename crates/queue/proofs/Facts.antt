@@ -8,9 +8,8 @@ use mathlib.Core.Path.{_≡_}
 use lib.ListN.{length, length-map}
 use lib.Dec.{ltb}
 use Rattle.cells.specs.Lists.{All, times}
-use Rattle.cells.proofs.Lists.{all-map, all-read}
+use Rattle.cells.proofs.Lists.{all-times, all-map, all-read}
 use Rattle.cells.proofs.Sums.{all-standing, cond-bit, standing-below, few}
-use Rattle.cells.proofs.Distinct.{all-times}
 use Rattle.meaning.specs.Calls.{Call, result}
 use Rattle.meaning.specs.Kept.{Kept}
 use Rattle.meaning.proofs.Handles.{ticketOf}

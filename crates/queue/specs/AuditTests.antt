@@ -6,7 +6,7 @@ use mathlib.Core.List.{List}
 use lib.Dec.{leb, ltb, eqb}
 use Rattle.cells.specs.Words.{word}
 use Rattle.cells.specs.Stack.{isFree}
-use Rattle.cells.specs.AuditTests.{sharedTest, allBelow}
+use Rattle.audits.specs.AuditTests.{sharedTest, allBelow}
 use Rattle.meaning.specs.Heap.{parent}
 use Rattle.heap.specs.Seats.{ranked, seatAt}
 use Rattle.queue.specs.Rules.{usedMask, freeMask}

@@ -2,7 +2,7 @@
 // any words whatever, so that nothing public here has a `requires`.
 
 use crate::head::Head;
-use cells::audit::audit as shared_sound;
+use audits::audit::audit as shared_sound;
 use cells::stack::is_free;
 use cells::words::get;
 use heap::seats::is_before;
@@ -11,7 +11,7 @@ ghost use Prim.Native.Nat.{_≤_};
 ghost use mathlib.Core.Bool.{true};
 ghost use mathlib.Core.Logic.{_↔_};
 ghost use mathlib.Core.Path.{_≡_};
-ghost use Rattle.cells.specs.AuditTests.{allBelow};
+ghost use Rattle.audits.specs.AuditTests.{allBelow};
 ghost use Rattle.heap.specs.Seats.{ranked, seatAt};
 ghost use Rattle.queue.specs.Rules.{QueueSound};
 ghost use Rattle.queue.specs.AuditTests.{headTest, behindTest, seatTest, placedTest, beyondTest, tableTest};

@@ -11,7 +11,7 @@ use lib.Seq.{drop-cons}
 use borrow.Author.Tests.{le-leb, lt-leb, lt-ltb, le-ltb, eq-eqb, ne-eqb}
 use Rattle.cells.specs.Words.{word}
 use Rattle.cells.specs.Stack.{isFree}
-use Rattle.cells.proofs.CellOrder.{pairs}
+use Rattle.audits.proofs.CellOrder.{pairs}
 use Rattle.places.specs.Ticks.{digit, level, due, slot, place, lastTick}
 use Rattle.places.proofs.Levels.{level-below}
 use Rattle.slots.specs.Rings.{lent, endsOf, isMarked, slotMarked}

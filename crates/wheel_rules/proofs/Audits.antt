@@ -11,10 +11,10 @@ use borrow.Author.Tests.{leb-true, le-leb, eqb-true, eq-eqb}
 use Rattle.cells.specs.Words.{word}
 use Rattle.cells.specs.Stack.{isFree, frees}
 use Rattle.cells.specs.Rules.{inUse, Sound}
-use Rattle.cells.specs.AuditTests.{allBelow, sharedTest}
+use Rattle.audits.specs.AuditTests.{allBelow, sharedTest}
 use Rattle.cells.proofs.Cases.{test, clash, and-true}
-use Rattle.cells.proofs.Below.{below-each, each-below}
-use Rattle.cells.proofs.Audits.{shared-decides}
+use Rattle.audits.proofs.Below.{below-each, each-below}
+use Rattle.audits.proofs.Audits.{shared-decides}
 use Rattle.places.specs.Ticks.{lastTick}
 use Rattle.slots.specs.Rings.{Lists}
 use Rattle.slots.specs.declared.ring.Ends.{Ends}

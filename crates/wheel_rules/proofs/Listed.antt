@@ -12,11 +12,11 @@ use Rattle.cells.specs.Lists.{times}
 use Rattle.cells.specs.Words.{word}
 use Rattle.cells.specs.Stack.{noCell, isFree, frees}
 use Rattle.cells.specs.Rules.{inUse}
-use Rattle.cells.specs.AuditTests.{allBelow}
+use Rattle.audits.specs.AuditTests.{allBelow}
 use Rattle.cells.proofs.Cases.{test, atMost?, clash, and-true}
-use Rattle.cells.proofs.Below.{below-each, each-below}
+use Rattle.audits.proofs.Below.{below-each, each-below}
 use Rattle.cells.proofs.Sums.{all-standing}
-use Rattle.cells.proofs.Distinct.{all-times}
+use Rattle.cells.proofs.Lists.{all-times}
 use Rattle.cells.proofs.Chains.{chain-once}
 use Rattle.slots.specs.Rings.{Lists, next, previous, endsOf, slotMarked}
 use Rattle.slots.specs.Stand.{dueList, RingOf, endsAt, hasCells, Stand}

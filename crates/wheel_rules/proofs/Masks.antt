@@ -7,10 +7,10 @@ use mathlib.Core.Path.{_≡_, refl}
 use lib.Dec.{eqb}
 use borrow.Author.Tests.{ne-eqb}
 use Rattle.cells.specs.Rules.{inMask}
-use Rattle.cells.specs.AuditTests.{allBelow}
+use Rattle.audits.specs.AuditTests.{allBelow}
 use Rattle.cells.proofs.Cases.{clash}
-use Rattle.cells.proofs.Below.{below-each}
-use Rattle.cells.proofs.Masks.{mask-only}
+use Rattle.audits.proofs.Below.{below-each}
+use Rattle.audits.proofs.Masks.{mask-only}
 use Rattle.wheel_rules.specs.Rules.{usedMask, freeMask}
 
 -- Of a cell in use word 6 is unused.

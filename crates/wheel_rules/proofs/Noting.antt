@@ -12,9 +12,9 @@ use lib.Seq.{take-suc-set, length-take-le}
 use Rattle.cells.specs.Words.{word}
 use borrow.Author.Tests.{eq-eqb, ne-eqb}
 use Rattle.cells.specs.Stack.{noCell, frees, link}
-use Rattle.cells.specs.AuditTests.{allBelow}
+use Rattle.audits.specs.AuditTests.{allBelow}
 use Rattle.cells.proofs.Cases.{clash}
-use Rattle.cells.proofs.Below.{below-fails, below-step, below-end}
+use Rattle.audits.proofs.Below.{below-fails, below-step, below-end}
 use Rattle.slots.specs.declared.ring.Ends.{Ends}
 use Rattle.wheel_rules.specs.AuditTests.{standTest, walked, closes, listCells, ringTest, noted, listTest, orderTest, listsTest, ListNoted, AllNoted}
 use Rattle.wheel_rules.specs.declared.audit.Noted.{Noted}

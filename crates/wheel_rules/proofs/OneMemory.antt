@@ -9,7 +9,7 @@ use Rattle.cells.specs.Words.{word}
 use Rattle.cells.specs.Stack.{link}
 use Rattle.cells.proofs.Cases.{same?}
 use Rattle.cells.proofs.Chains.{chain-tops, chain-alike}
-use Rattle.cells.proofs.Distinct.{all-times}
+use Rattle.cells.proofs.Lists.{all-times}
 use Rattle.cells.proofs.Places.{words-ext, each-field}
 use Rattle.meaning.specs.Plain.{Plain}
 use Rattle.meaning.specs.Heap.{at}

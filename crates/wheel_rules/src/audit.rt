@@ -1,8 +1,8 @@
 // The wheel's audit: the rules that every engine shares, then the deadlines, the marks and the lists, each walked once, and the order of equal deadlines
 // by one stable sort. Memory and arrays are any words whatever, so that nothing public here has a `requires`.
 
-use cells::audit::audit as shared_sound;
-use cells::sort::sort;
+use audits::audit::audit as shared_sound;
+use audits::sort::sort;
 use cells::stack::count_free;
 use cells::stack::is_free;
 use cells::words::get;
@@ -17,7 +17,7 @@ ghost use mathlib.Core.Logic.{_↔_};
 ghost use mathlib.Core.Path.{_≡_};
 ghost use lib.Dec.{eqb};
 ghost use lib.ListN.{length};
-ghost use Rattle.cells.specs.AuditTests.{allBelow};
+ghost use Rattle.audits.specs.AuditTests.{allBelow};
 ghost use Rattle.dial.specs.Lent.{listsOf};
 ghost use Rattle.dial.specs.Turns.{listOf};
 ghost use Rattle.wheel_rules.specs.Rules.{WheelSound};

@@ -6,8 +6,8 @@ use mathlib.Core.Bool.{true}
 use mathlib.Core.Path.{_≡_, refl, sym, _∙_}
 use borrow.Author.Needs.{needs}
 use borrow.Author.Tests.{not-true, not-false}
-use Rattle.cells.specs.AuditTests.{allBelow}
-use Rattle.cells.proofs.Below.{below-step, below-fails, below-end}
+use Rattle.audits.specs.AuditTests.{allBelow}
+use Rattle.audits.proofs.Below.{below-step, below-fails, below-end}
 use Rattle.wheel_rules.specs.AuditTests.{deadlineTest}
 use Rattle.wheel_rules.proofs.audit.deadlines_sound.Statement.{statement}
 use Rattle.wheel_rules.proofs.audit.deadlines_sound.Tie as tie

@@ -2,7 +2,7 @@
 -- Assumes nothing.
 use mathlib.Core.Path.{ap, _∙_}
 use borrow.Author.Needs.{needs}
-use Rattle.cells.proofs.CellSort.{list-fits}
+use Rattle.audits.proofs.CellSort.{list-fits}
 use Rattle.wheel_rules.specs.AuditTests.{neighboursRise, orderTest}
 use Rattle.wheel_rules.proofs.audit.order_sound.Statement.{statement}
 use Rattle.wheel_rules.proofs.audit.order_sound.Tie as tie

@@ -1,0 +1,140 @@
+-- What the audit's small functions find, as equations of their tests: one law for each way out of a function.
+-- Assumes nothing.
+use Prim.Native.Nat.{ℕ, zero, suc, _+_, _/_, _%_, _^_, _≤_, _<_}
+use native.Mathlib.Nat.{div-div-eq-div-mul, pow-suc}
+use native.Mathlib.Numerals.{add-one}
+use mathlib.Core.Bool.{Bool, true, false, cond, not, _&&_, _||_}
+use mathlib.Core.List.{List, [], _∷_, _++_, append-nil, append-assoc}
+use mathlib.Core.Path.{_≡_, refl, sym, ap, _∙_}
+use native.Mathlib.Omega.{arith}
+use lib.Dec.{leb, ltb, eqb}
+use lib.ListN.{length, getD, drop, set, length-append, length-drop}
+use lib.Seq.{drop-cons, set-at}
+use borrow.Author.Tests.{le-leb, lt-leb, eq-eqb, ne-eqb}
+use Rattle.cells.proofs.Cases.{and-false}
+use Rattle.audits.proofs.Below.{below-fails}
+use Rattle.cells.specs.declared.store.Store.{Store}
+use Rattle.cells.specs.Words.{word}
+use Rattle.cells.specs.Rules.{inUse, inMask}
+use Rattle.audits.specs.AuditTests.{allBelow, fieldTest, blankTest, numberedTest, cellTest, usedBelow, sizeTest}
+
+module _ (w : List ℕ) where
+  pub numbered-yes : (counter c t o : ℕ) → t ≡ word w c 0 → o ≡ word w c 1 → t ≤ o → ltb o counter ≡ numberedTest w counter c
+  unfolding numberedTest
+  numbered-yes counter c t o p q h = rw (← p, ← q) (rw (le-leb t o h))
+
+  pub numbered-no : (counter c t o : ℕ) → t ≡ word w c 0 → o ≡ word w c 1 → o < t → false ≡ numberedTest w counter c
+  unfolding numberedTest
+  numbered-no counter c t o p q h = rw (← p, ← q) (rw (lt-leb t o h))
+
+  -- The next digit of a mask.
+  pub mask-next : (m f : ℕ) → m / 2 ^ f / 2 ≡ m / 2 ^ (f + 1)
+  mask-next m f = rw (add-one, pow-suc) (div-div-eq-div-mul m (2 ^ f) 2)
+
+  -- A field as `clean` tests it.
+  pub field-is : (m c f rest : ℕ) (r : Bool) → rest ≡ m / 2 ^ f → r ≡ not (eqb (rest % 2) 1) || eqb (word w c f) 0 → fieldTest w m c f ≡ r
+  unfolding fieldTest inMask
+  field-is m c f rest r p q = rw (← p) (sym q)
+
+  pub blank-no : (m c f : ℕ) → f < 8 → fieldTest w m c f ≡ false → false ≡ blankTest w m c
+  unfolding blankTest
+  blank-no m c f h e = sym (below-fails (fieldTest w m c) 8 f h e)
+
+  pub blank-yes : (m c f : ℕ) → f ≡ 8 → allBelow f (fieldTest w m c) ≡ true → true ≡ blankTest w m c
+  unfolding blankTest
+  blank-yes m c f h e = sym (rw h at e)
+
+  -- A cell by its ticket.
+  pub cell-free : (counter used free c t : ℕ) (r : Bool) → t ≡ word w c 0 → t ≡ 0 → r ≡ blankTest w free c → r ≡ cellTest w counter used free c
+  unfolding cellTest inUse
+  cell-free counter used free c t r p z e = rw (← p) (rw (eq-eqb t 0 z) e)
+
+  pub cell-used : (counter used free c t : ℕ) (n r : Bool) → t ≡ word w c 0 → (t ≡ 0 → ⊥) → n ≡ numberedTest w counter c → n ≡ true
+      → r ≡ blankTest w used c
+      → r ≡ cellTest w counter used free c
+  unfolding cellTest inUse
+  cell-used counter used free c t n r p z q y e = rw (← p) (rw (ne-eqb t 0 z) (rw (sym q ∙ y) e))
+
+  pub cell-bad : (counter used free c t : ℕ) (n : Bool) → t ≡ word w c 0 → (t ≡ 0 → ⊥) → n ≡ numberedTest w counter c → n ≡ false
+      → false ≡ cellTest w counter used free c
+  unfolding cellTest inUse
+  cell-bad counter used free c t n p z q y = rw (← p) (rw (ne-eqb t 0 z) (rw (sym q ∙ y)))
+
+-- A cell by its ticket word.
+pub in-use : (w : List ℕ) (c t : ℕ) → t ≡ word w c 0 → (t ≡ 0 → ⊥) → inUse w c ≡ true
+unfolding inUse
+in-use w c t p z = rw (← p) (rw (ne-eqb t 0 z))
+
+pub not-in-use : (w : List ℕ) (c t : ℕ) → t ≡ word w c 0 → t ≡ 0 → inUse w c ≡ false
+unfolding inUse
+not-in-use w c t p z = rw (← p) (rw (eq-eqb t 0 z))
+
+-- One cell more is noted at the front, if it is in use.
+pub gather-list : (w a : List ℕ) (c m : ℕ) → m ≡ length (usedBelow w c) → m < length a
+    → cond (inUse w c) (set (usedBelow w c ++ drop m a) m c) (usedBelow w c ++ drop m a)
+    ≡ usedBelow w (c + 1) ++ drop (cond (inUse w c) (m + 1) m) a
+unfolding usedBelow
+gather-list w a c m e h = rw (add-one c) (go (inUse w c))
+  where
+    go : (t : Bool) → cond t (set (usedBelow w c ++ drop m a) m c) (usedBelow w c ++ drop m a)
+        ≡ (usedBelow w c ++ cond t (c ∷ []) []) ++ drop (cond t (m + 1) m) a
+    go true =
+        rw (drop-cons a m 0 h)
+        (set-at (usedBelow w c) (getD a m 0) (drop (suc m) a) c m (sym e)
+        ∙ rw (add-one m) (sym (append-assoc (usedBelow w c) (c ∷ []) (drop (suc m) a))))
+    go false = rw append-nil
+
+pub gather-count : (w : List ℕ) (c m : ℕ) → m ≡ length (usedBelow w c) → cond (inUse w c) (m + 1) m ≡ length (usedBelow w (c + 1))
+unfolding usedBelow
+gather-count w c m e = rw (add-one c) (go (inUse w c))
+  where
+    go : (t : Bool) → cond t (m + 1) m ≡ length (usedBelow w c ++ cond t (c ∷ []) [])
+    go true = omega (arith, length-append (usedBelow w c) (c ∷ []))
+    go false = omega (arith, length-append (usedBelow w c) [])
+
+pub used-length : (w : List ℕ) (n : ℕ) → length (usedBelow w n) ≤ n
+unfolding usedBelow
+used-length w zero = omega arith
+used-length w (suc n) = go (inUse w n) (used-length w n)
+  where
+    go : (t : Bool) → length (usedBelow w n) ≤ n → length (usedBelow w n ++ cond t (n ∷ []) []) ≤ suc n
+    go true r = omega (arith, length-append (usedBelow w n) (n ∷ []))
+    go false r = omega (arith, length-append (usedBelow w n) [])
+
+-- The array as `note` leaves it, and its length.
+pub gather-step : (w a₀ a a′ : List ℕ) (c m m′ : ℕ) → m ≡ length (usedBelow w c) → m < length a₀ → a ≡ usedBelow w c ++ drop m a₀
+    → m′ ≡ cond (inUse w c) (m + 1) m
+    → a′ ≡ cond (inUse w c) (set a m c) a
+    → a′ ≡ usedBelow w (c + 1) ++ drop m′ a₀
+gather-step w a₀ a a′ c m m′ e h p q r =
+    r
+    ∙ ap (λ (l : List ℕ). cond (inUse w c) (set l m c) l) p
+    ∙ gather-list w a₀ c m e h
+    ∙ ap (λ (k : ℕ). usedBelow w (c + 1) ++ drop k a₀) (sym q)
+
+pub gather-length : (w a₀ a : List ℕ) (c m : ℕ) → m ≡ length (usedBelow w c) → c ≤ length a₀ → a ≡ usedBelow w c ++ drop m a₀ → length a ≡ length a₀
+gather-length w a₀ a c m e h p =
+    omega (arith, ap length p, length-append (usedBelow w c) (drop m a₀), length-drop m a₀, used-length w c)
+
+-- Sizes, by the first that is wrong.
+module _ (l : ℕ) (s : Store) where
+  pub size-counter : s .cells ≡ l / 8 → 1 ≤ s .cells → s .cells ≤ 4096 → leb 1 (s .counter) ≡ sizeTest l s
+  unfolding sizeTest
+  size-counter e h k = rw (eq-eqb (s .cells) (l / 8) e, le-leb 1 (s .cells) h, le-leb (s .cells) 4096 k)
+
+  pub size-many : 4096 < s .cells → false ≡ sizeTest l s
+  unfolding sizeTest
+  size-many h = rw (lt-leb (s .cells) 4096 h) (go (eqb (s .cells) (l / 8)) (leb 1 (s .cells)))
+    where
+      go : (t u : Bool) → false ≡ t && (u && false)
+      go true true = refl
+      go true false = refl
+      go false u = refl
+
+  pub size-none : s .cells < 1 → false ≡ sizeTest l s
+  unfolding sizeTest
+  size-none h = rw (lt-leb 1 (s .cells) h) (sym (and-false (eqb (s .cells) (l / 8))))
+
+  pub size-other : (s .cells ≡ l / 8 → ⊥) → false ≡ sizeTest l s
+  unfolding sizeTest
+  size-other d = rw (ne-eqb (s .cells) (l / 8) d)

@@ -1,0 +1,3 @@
+-- What the shared audit tests, and sorting.
+pub mod Sorted
+pub mod AuditTests

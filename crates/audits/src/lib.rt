@@ -1,0 +1,4 @@
+// The part of the audit that every engine shares, and the sort that it and the engines' own audits use.
+
+pub mod audit;
+pub mod sort;
