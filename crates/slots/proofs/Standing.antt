@@ -80,7 +80,7 @@ marked-first l ls s =
     found = scan-least (slotMarked (l .marks)) 384 0
 
 -- The ends of a slot stand in the arrays.
-slot-first : (l : Lists) (i : ℕ) → i ≢ dueList → endsAt l i .first ≡ getD (l .first) i noCell
+pub slot-first : (l : Lists) (i : ℕ) → i ≢ dueList → endsAt l i .first ≡ getD (l .first) i noCell
 unfolding endsAt endsOf
 slot-first l i d = rw (ne-eqb i dueList d)
 

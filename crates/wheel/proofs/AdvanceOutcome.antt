@@ -2,24 +2,22 @@
 -- Assumes nothing.
 use Prim.Native.Nat.{ℕ, zero, suc, _+_, _-_, _*_, _<_}
 use native.Mathlib.Omega.{arith}
-use mathlib.Core.Bool.{Bool, true, false}
 use mathlib.Core.List.{List, [], _∷_}
 use mathlib.Core.Path.{_≡_, refl, sym, ap, _∙_}
 use lib.ListN.{length, getD, drop, length-drop}
 use lib.Seq.{drop-drop}
 use Rattle.cells.proofs.Cases.{test, clash}
-use Rattle.meaning.specs.Calls.{Shown, Report, Answer, Advance, isRefused, reportOf}
-use Rattle.meaning.specs.Plain.{Plain}
+use Rattle.meaning.specs.Calls.{Shown, Answer, isRefused, reportOf}
 use Rattle.slots.specs.Rings.{Lists}
 use Rattle.wheel.specs.Answers.{recordIn, recordsIn, report, toldAdvance, written}
 use Rattle.wheel_rules.specs.AuditTests.{auditTest}
-use Rattle.wheel.specs.Promise.{headLists, DialShows, Broken, Advances, CheckedAdvance}
+use Rattle.wheel.specs.Promise.{headLists, Broken, CheckedAdvance}
 use Rattle.wheel.specs.declared.head.AdvanceAnswer.{AdvanceAnswer}
 use Rattle.wheel.specs.declared.head.AdvanceAnswer.the-variants as advance
 use Rattle.dial.specs.declared.state.Dial.{Dial}
 use Rattle.wheel.specs.declared.head.Head.{Head}
 use Rattle.wheel_rules.proofs.Audits.{audit-decides}
-use Rattle.wheel.proofs.Outcomes.{Same, one-quick}
+use Rattle.wheel.proofs.Outcomes.{one-quick}
 use Rattle.wheel_rules.proofs.ShownSound.{shown-sound}
 use Rattle.wheel_rules.proofs.SoundShown.{sound-shown}
 

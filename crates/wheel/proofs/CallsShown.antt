@@ -3,12 +3,10 @@
 use Prim.Native.Nat.{ℕ, _+_, _≤_, _<_}
 use native.Mathlib.Omega.{arith}
 use mathlib.Core.Bool.{true, false}
-use mathlib.Core.List.{List, map}
 use mathlib.Core.Option.{some}
 use mathlib.Core.Path.{_≡_, refl, sym, ap, subst, _∙_}
-use lib.Dec.{leb, ltb}
 use borrow.Author.Tests.{le-leb, lt-leb, le-ltb, lt-ltb}
-use Rattle.cells.specs.Lists.{All, times}
+use Rattle.cells.specs.Lists.{times}
 use Rattle.cells.specs.Words.{word, putWord}
 use Rattle.cells.specs.Store.{noFree, spent, holdsTicket, entered, releaseWords, releaseStore}
 use Rattle.cells.proofs.Lists.{all-map}
@@ -17,28 +15,11 @@ use Rattle.meaning.specs.Entries.{Entry, named}
 use Rattle.meaning.specs.Plain.{Plain, top, files, refiles, frees}
 use Rattle.meaning.specs.Refusals as refusals
 use Rattle.meaning.specs.Refusals.{firstOf, isEmpty, isNone, beyond, notAfter, full, stale}
-use Rattle.meaning.specs.Calls.{
-  Call,
-  Arm,
-  Move,
-  Cancel,
-  Refused,
-  Handle,
-  Changed,
-  Load,
-  Answer,
-  causes,
-  filing,
-  refiling,
-  freeing,
-  accepted,
-  refused,
-  outcome,
-}
+use Rattle.meaning.specs.Calls.{Call, Arm, Move, Cancel, Refused, Handle, Changed, Load, Answer, causes, filing, refiling, freeing, accepted, refused, outcome}
 use Rattle.meaning.proofs.Allowed.{found}
 use Rattle.meaning.proofs.Handles.{names-own, named-names, named-all}
 use Rattle.meaning.proofs.HandleTest.{Bearing, test-held, test-lost}
-use Rattle.meaning.proofs.Stack.{cellOf, empty-top}
+use Rattle.meaning.proofs.Stack.{empty-top}
 use Rattle.places.specs.Ticks.{lastTick}
 use Rattle.slots.specs.Rings.{Lists}
 use Rattle.slots.specs.Stand.{joinAt, leaveAt}

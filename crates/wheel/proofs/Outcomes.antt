@@ -1,10 +1,8 @@
 -- Only one outcome meets a call's promise, and its answer is the plain list's. An advance has its own law.
 -- Assumes nothing.
-use Prim.Native.Nat.{ℕ, _*_, _/_}
-use mathlib.Core.Bool.{true}
+use Prim.Native.Nat.{ℕ}
 use mathlib.Core.List.{List}
 use mathlib.Core.Path.{_≡_, refl, sym, ap, _∙_}
-use lib.ListN.{length, drop}
 use Rattle.cells.proofs.Cases.{test, clash}
 use Rattle.meaning.specs.Calls.{Call, Answer, result}
 use Rattle.meaning.specs.Plain.{Plain}
@@ -12,7 +10,7 @@ use Rattle.slots.specs.Rings.{Lists}
 use Rattle.dial.specs.Joined.{listed, step}
 use Rattle.dial.proofs.Listed.{step-plain}
 use Rattle.wheel_rules.specs.AuditTests.{auditTest}
-use Rattle.wheel.specs.Promise.{headLists, DialShows, Broken, Done, Promise, Checked}
+use Rattle.wheel.specs.Promise.{headLists, DialShows, Broken, Promise, Checked}
 use Rattle.dial.specs.declared.state.Dial.{Dial}
 use Rattle.wheel.specs.declared.head.Head.{Head}
 use Rattle.wheel_rules.proofs.Audits.{audit-decides}

@@ -1,6 +1,6 @@
 -- What the store's and the dial's calls did comes to the promises of arm, cancel and move: one law for each way that a call may end.
 -- Assumes nothing.
-use Prim.Native.Nat.{ℕ, _+_, _≤_, _<_}
+use Prim.Native.Nat.{ℕ, _≤_, _<_}
 use native.Mathlib.Omega.{arith}
 use mathlib.Core.Bool.{true, false}
 use mathlib.Core.List.{List}

@@ -4,15 +4,15 @@ use Prim.Native.Nat.{ℕ, _/_, _≤_, _<_}
 use native.Mathlib.Omega.{arith}
 use mathlib.Core.Bool.{true, false}
 use mathlib.Core.List.{List}
-use mathlib.Core.Path.{_≡_, sym, _∙_}
+use mathlib.Core.Path.{_≡_, _∙_}
 use lib.ListN.{length}
 use borrow.Author.Tests.{lt-ltb, le-ltb}
 use Rattle.cells.specs.Store as store
-use Rattle.cells.specs.Store.{wrongSize, freshWords}
+use Rattle.cells.specs.Store.{wrongSize}
 use Rattle.cells.specs.declared.store.Store.{Store}
 use Rattle.cells.specs.declared.store.SetUp as stores
 use Rattle.cells.specs.declared.store.SetUp.the-variants as made
-use Rattle.cells.proofs.Fresh.{size-right, set-up-right}
+use Rattle.cells.proofs.Fresh.{set-up-right}
 use Rattle.meaning.specs.Refusals.{firstOf, badSize, beyond}
 use Rattle.places.specs.Ticks.{lastTick}
 use Rattle.wheel.specs.SetUps.{setUpCauses, emptyHead, freshStore, noStore, setUpAnswer, setUpHead, setUpWords}

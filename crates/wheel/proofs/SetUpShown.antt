@@ -1,9 +1,8 @@
 -- A wheel that is set up shows the fresh model, and set-up keeps the number of words and those past the last cell.
 -- Assumes nothing.
 use Prim.Native.Nat.{ℕ, _*_, _/_, _≤_}
-use native.Mathlib.Omega.{arith}
 use mathlib.Core.List.{List, []}
-use mathlib.Core.Path.{_≡_, refl, sym, ap, _∙_}
+use mathlib.Core.Path.{_≡_, refl, sym, ap}
 use lib.ListN.{length, drop}
 use Rattle.cells.specs.Store.{freshWords}
 use Rattle.cells.proofs.Fresh.{fresh-length, fresh-tail}
@@ -16,7 +15,7 @@ use Rattle.slots.proofs.Changing.{stand-same}
 use Rattle.slots.proofs.Standing.{fresh-stands}
 use Rattle.meaning.specs.Arranged.{arranged}
 use Rattle.dial.specs.Joined.{listed}
-use Rattle.dial.specs.Shows.{passing, standing, cellsAt}
+use Rattle.dial.specs.Shows.{passing, standing}
 use Rattle.wheel.specs.Promise.{headLists, DialShows}
 use Rattle.wheel.specs.SetUps.{setUpCauses, emptyHead, freshStore, setUpWords}
 
@@ -44,12 +43,6 @@ module _ (w : List ℕ) where
               stable = tt;
             };
       }
-
-  -- Set-up keeps the number of words.
-  pub set-up-length : (t : ℕ) → length (setUpWords w t) ≡ length w
-  unfolding setUpWords
-  set-up-length t =
-      given-either (λ (x : List ℕ). length x ≡ length w) (λ i. w) (freshWords w) (setUpCauses w t) (λ i. refl) (λ f. fresh-length w)
 
   -- "The last L mod 8 words are never touched."
   pub set-up-tail : (t : ℕ) → drop (length w / 8 * 8) (setUpWords w t) ≡ drop (length w / 8 * 8) w

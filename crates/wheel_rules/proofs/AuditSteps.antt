@@ -1,10 +1,10 @@
 -- What the audit's small functions find, as equations of their tests: one law for each way out of a function.
 -- Assumes nothing.
-use Prim.Native.Nat.{ℕ, _+_, _-_, _*_, _/_, _%_, _^_, _≤_, _<_}
+use Prim.Native.Nat.{ℕ, _+_, _-_, _/_, _%_, _^_, _≤_, _<_}
 use native.Mathlib.Omega.{arith}
-use mathlib.Core.Bool.{Bool, true, false, cond, not, _&&_}
+use mathlib.Core.Bool.{Bool, true, false, not, _&&_}
 use mathlib.Core.List.{List, [], _∷_}
-use mathlib.Core.Path.{_≡_, refl, sym, ap, _∙_}
+use mathlib.Core.Path.{_≡_, refl, sym, _∙_}
 use lib.Dec.{leb, ltb, eqb}
 use lib.ListN.{length, getD, drop, length-drop}
 use lib.Seq.{drop-cons}
@@ -12,11 +12,10 @@ use borrow.Author.Tests.{le-leb, lt-leb, lt-ltb, le-ltb, eq-eqb, ne-eqb}
 use Rattle.cells.specs.Words.{word}
 use Rattle.cells.specs.Stack.{isFree}
 use Rattle.audits.proofs.CellOrder.{pairs}
-use Rattle.places.specs.Ticks.{digit, level, due, slot, place, lastTick}
-use Rattle.places.proofs.Levels.{level-below}
+use Rattle.places.specs.Ticks.{due, lastTick}
 use Rattle.slots.specs.Rings.{lent, endsOf, isMarked, slotMarked}
 use Rattle.slots.specs.declared.ring.Ends.{Ends}
-use Rattle.dial.specs.Turns.{listNumber, listOf}
+use Rattle.dial.specs.Turns.{listOf}
 use Rattle.wheel_rules.specs.AuditTests.{dialTest, deadlineTest, arraysTest, markTest, standTest, endsIn, riseTest, neighboursRise}
 use Rattle.dial.specs.declared.state.Dial.{Dial}
 
@@ -72,36 +71,6 @@ module _ (first marks : List ℕ) (i m : ℕ) (e : Ends) (found : e ≡ endsOf (
   pub mark-none : (m / 2 ^ (i % 64) % 2 ≡ 1 → ⊥) → eqb (e .first) 4096 ≡ markTest first marks i
   unfolding markTest slotMarked isMarked endsOf
   mark-none h = rw (← mark, found) (rw (le-leb _ _ narrow, ne-eqb (m / 2 ^ (i % 64) % 2) 1 h))
-
--- The list of a deadline.
-module _ (t e : ℕ) where
-  -- What is due stands in the due list.
-  pub list-due : e ≡ t → 384 ≡ listOf t e
-  unfolding listOf listNumber place
-  list-due h = rw (eq-eqb e t h)
-
-  -- Anything else stands in a slot.
-  pub list-slot : (p s : ℕ) → (e ≡ t → ⊥) → p ≡ level 64 6 t e → s ≡ digit 64 p e → p * 64 + s ≡ listOf t e
-  unfolding listOf listNumber place
-  list-slot p s h x y = rw (ne-eqb e t h, ← x) (ap (λ (z : ℕ). p * 64 + z) y)
-
-  -- Six levels,
-  pub list-level : (p : ℕ) → p ≡ level 64 6 t e → p < 6
-  list-level p x = omega (arith, level-below 64 6 t e (omega arith))
-
-  -- of 64 slots,
-  pub list-digit : (p s : ℕ) → s ≡ digit 64 p e → s < 64
-  unfolding digit
-  list-digit p s y = omega arith
-
-  -- and the due list.
-  pub list-most : listOf t e ≤ 384
-  unfolding listOf listNumber place
-  list-most = go (eqb e t)
-    where
-      go : (b : Bool) → listNumber (cond b due (slot (level 64 6 t e) (digit 64 (level 64 6 t e) e))) ≤ 384
-      go true = omega arith
-      go false = omega (arith, list-level (level 64 6 t e) refl, list-digit (level 64 6 t e) (digit 64 (level 64 6 t e) e) refl)
 
 -- The ways out of a cell c behind p in list i.
 module _ (w : List ℕ) (n t i p c : ℕ) where

@@ -15,13 +15,14 @@ use Rattle.audits.specs.AuditTests.{allBelow, sharedTest}
 use Rattle.cells.proofs.Cases.{test, clash, and-true}
 use Rattle.audits.proofs.Below.{below-each, each-below}
 use Rattle.audits.proofs.Audits.{shared-decides}
+use Rattle.cells.proofs.Used.{in-use-free, not-free-used}
 use Rattle.places.specs.Ticks.{lastTick}
 use Rattle.slots.specs.Rings.{Lists}
 use Rattle.slots.specs.declared.ring.Ends.{Ends}
 use Rattle.wheel_rules.specs.Rules.{usedMask, freeMask, WheelSound}
 use Rattle.wheel_rules.specs.AuditTests.{dialTest, deadlineTest, arraysTest, markTest, endsIn, noted, listTest, orderTest, listsTest, auditTest}
 use Rattle.dial.specs.declared.state.Dial.{Dial}
-use Rattle.wheel_rules.proofs.Listed.{used-not-free, not-free-used, tests-listing, listing-rings, listing-whole, listing-order, listing-marks}
+use Rattle.wheel_rules.proofs.Listed.{tests-listing, listing-rings, listing-whole, listing-order, listing-marks}
 
 -- The test of the numbers.
 dial-rule : (d : Dial) → dialTest d ≡ true → (d .store .counter ≤ 18446744073709551615) × (d .clock ≤ lastTick 64 6)
@@ -39,7 +40,7 @@ rule-dial d h k = rw (le-leb (d .store .counter) 18446744073709551615 h, le-leb 
 deadline-rule : (w : List ℕ) (t c : ℕ) → deadlineTest w t c ≡ true → inUse w c ≡ true → (t ≤ word w c 2) × (word w c 2 ≤ lastTick 64 6)
 unfolding deadlineTest
 deadline-rule w t c e u =
-    let both = and-true (leb t (word w c 2)) (leb (word w c 2) (lastTick 64 6)) (rw (used-not-free w c u) at e) in
+    let both = and-true (leb t (word w c 2)) (leb (word w c 2) (lastTick 64 6)) (rw (in-use-free w c u) at e) in
     (leb-true _ _ (both .0), leb-true _ _ (both .1))
 
 -- A deadline that keeps the rules passes.

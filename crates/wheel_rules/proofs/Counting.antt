@@ -13,20 +13,14 @@ use Rattle.cells.specs.Words.{word}
 use Rattle.cells.specs.Stack.{isFree, frees}
 use Rattle.cells.proofs.Cases.{test, same?, atMost?, clash}
 use Rattle.cells.proofs.Lists.{times-append}
-use Rattle.cells.proofs.Sums.{sumBelow-same, sumBelow-most, sumBelow-pinned, length-times, all-standing}
+use Rattle.cells.proofs.Sums.{sumBelow-same, sumBelow-most, sumBelow-pinned, length-times, all-standing, sumBelow-ones}
 use Rattle.wheel_rules.specs.Rules.{Rises}
 use Rattle.wheel_rules.proofs.Rising.{rises-front, rises-rest, rises-append}
 
--- The lists below k, one behind the other.
-unfoldable pub joinedTo : (ℕ → List ℕ) → ℕ → List ℕ
-joinedTo ls zero = []
-joinedTo ls (suc k) = joinedTo ls k ++ ls k
-
--- As many numbers as there are, each counted once.
-ones : (n : ℕ) → sumBelow (λ (x : ℕ). 1) n ≡ n
-unfolding sumBelow
-ones zero = refl
-ones (suc n) = omega (arith, ones n)
+-- The cells of the first n lists, list after list.
+unfoldable pub gathered : (ℕ → List ℕ) → ℕ → List ℕ
+gathered ls zero = []
+gathered ls (suc n) = gathered ls n ++ ls n
 
 -- A cell that is in use counts 1.
 abbrev pub inUseOne : List ℕ → ℕ → ℕ
@@ -49,17 +43,17 @@ module _ (ls : ℕ → List ℕ) (place : ℕ → ℕ) (most : ℕ) (own : (i c 
   elsewhere i c h d = atMost? 1 (times c (ls i)) (λ k. absurd (d (own i c h k))) (λ k. omega arith)
 
   -- In all lists below k it stands as often as in that one.
-  pub times-joined : (k c : ℕ) → k ≤ most → times c (joinedTo ls k) ≡ cond (ltb (place c) k) (times c (ls (place c))) 0
-  unfolding joinedTo
-  times-joined zero c h = rw (le-ltb (place c) 0 (omega arith)) (unfold times in refl)
-  times-joined (suc k) c h = times-append c (joinedTo ls k) (ls k) ∙ go (times-joined k c (omega arith))
+  pub gathered-times : (k c : ℕ) → k ≤ most → times c (gathered ls k) ≡ cond (ltb (place c) k) (times c (ls (place c))) 0
+  unfolding gathered
+  gathered-times zero c h = rw (le-ltb (place c) 0 (omega arith)) (unfold times in refl)
+  gathered-times (suc k) c h = times-append c (gathered ls k) (ls k) ∙ go (gathered-times k c (omega arith))
     where
-      go : times c (joinedTo ls k) ≡ cond (ltb (place c) k) (times c (ls (place c))) 0
-          → times c (joinedTo ls k) + times c (ls k) ≡ cond (ltb (place c) (suc k)) (times c (ls (place c))) 0
+      go : times c (gathered ls k) ≡ cond (ltb (place c) k) (times c (ls (place c))) 0
+          → times c (gathered ls k) + times c (ls k) ≡ cond (ltb (place c) (suc k)) (times c (ls (place c))) 0
       go r =
           same? (place c) k
           (λ e.
-          let before : times c (joinedTo ls k) ≡ 0 = rw (le-ltb (place c) k (omega arith)) at r in
+          let before : times c (gathered ls k) ≡ 0 = rw (le-ltb (place c) k (omega arith)) at r in
           rw (lt-ltb (place c) (suc k) (omega arith)) (rw e (omega arith)))
           (λ d.
           let here : times c (ls k) ≡ 0 = elsewhere k c (omega arith) d in
@@ -68,81 +62,81 @@ module _ (ls : ℕ → List ℕ) (place : ℕ → ℕ) (most : ℕ) (own : (i c 
           (λ l. rw (lt-ltb (place c) (suc k) (omega arith)) (omega (arith, rw (lt-ltb (place c) k l) at r))))
 
   -- A cell that stands there stands in the list of its place.
-  joined-stands : (k c : ℕ) → k ≤ most → 1 ≤ times c (joinedTo ls k) → (place c < k) × (1 ≤ times c (ls (place c)))
-  joined-stands k c h s =
+  gathered-stands : (k c : ℕ) → k ≤ most → 1 ≤ times c (gathered ls k) → (place c < k) × (1 ≤ times c (ls (place c)))
+  gathered-stands k c h s =
       atMost? k (place c)
-      (λ l. absurd (omega (arith, rw (le-ltb (place c) k l) at (times-joined k c h))))
-      (λ l. (l, omega (arith, rw (lt-ltb (place c) k l) at (times-joined k c h))))
+      (λ l. absurd (omega (arith, rw (le-ltb (place c) k l) at (gathered-times k c h))))
+      (λ l. (l, omega (arith, rw (lt-ltb (place c) k l) at (gathered-times k c h))))
 
   module _ (n : ℕ) (inside : (i c : ℕ) → i < most → 1 ≤ times c (ls i) → c < n) where
     -- Each cell in the lists is one of the first n.
-    all-inside : (k : ℕ) → k ≤ most → All (λ (c : ℕ). c < n) (joinedTo ls k)
+    all-inside : (k : ℕ) → k ≤ most → All (λ (c : ℕ). c < n) (gathered ls k)
     all-inside k h =
-        all-standing (λ (c : ℕ). c < n) (joinedTo ls k)
-        (λ c s. let r = joined-stands k c h s in inside (place c) c (omega (arith, r .0)) (r .1))
+        all-standing (λ (c : ℕ). c < n) (gathered ls k)
+        (λ c s. let r = gathered-stands k c h s in inside (place c) c (omega (arith, r .0)) (r .1))
 
     -- Their number is the sum of how often each cell stands there.
-    counted : (k : ℕ) → k ≤ most → sumBelow (λ (c : ℕ). times c (joinedTo ls k)) n ≡ length (joinedTo ls k)
-    counted k h = length-times n (joinedTo ls k) (all-inside k h)
+    counted : (k : ℕ) → k ≤ most → sumBelow (λ (c : ℕ). times c (gathered ls k)) n ≡ length (gathered ls k)
+    counted k h = length-times n (gathered ls k) (all-inside k h)
 
     module _ (once : (i c : ℕ) → i < most → times c (ls i) ≤ 1) where
       -- Each stands at most once in all of them.
-      joined-once : (k c : ℕ) → k ≤ most → times c (joinedTo ls k) ≤ 1
-      joined-once k c h =
-          atMost? 1 (times c (joinedTo ls k))
+      gathered-once : (k c : ℕ) → k ≤ most → times c (gathered ls k) ≤ 1
+      gathered-once k c h =
+          atMost? 1 (times c (gathered ls k))
           (λ s.
-          let r = joined-stands k c h s in
-          omega (arith, rw (lt-ltb (place c) k (r .0)) at (times-joined k c h), once (place c) c (omega (arith, r .0))))
+          let r = gathered-stands k c h s in
+          omega (arith, rw (lt-ltb (place c) k (r .0)) at (gathered-times k c h), once (place c) c (omega (arith, r .0))))
           (λ s. omega arith)
 
       -- There are no more than n.
-      pub joined-few : (k : ℕ) → k ≤ most → length (joinedTo ls k) ≤ n
-      joined-few k h =
-          omega (arith, counted k h, ones n, sumBelow-most (λ (c : ℕ). times c (joinedTo ls k)) (λ (c : ℕ). 1) n (λ c l. joined-once k c h))
+      pub gathered-few : (k : ℕ) → k ≤ most → length (gathered ls k) ≤ n
+      gathered-few k h =
+          omega (arith, counted k h, sumBelow-ones n, sumBelow-most (λ (c : ℕ). times c (gathered ls k)) (λ (c : ℕ). 1) n (λ c l. gathered-once k c h))
 
       -- As many as are in use, all of them in use: each cell in use stands there.
-      pub joined-whole :
+      pub gathered-whole :
           (w : List ℕ)
           → ((i c : ℕ) → i < most → 1 ≤ times c (ls i) → isFree w c ≡ false)
-          → length (joinedTo ls most) + frees w n ≡ n
+          → length (gathered ls most) + frees w n ≡ n
           → (c : ℕ)
           → c < n
-          → times c (joinedTo ls most) ≡ inUseOne w c
-      joined-whole w used whole =
-          sumBelow-pinned (λ (c : ℕ). times c (joinedTo ls most)) (inUseOne w) n
-          (λ c l. test (isFree w c) (λ e. rw e (omega (arith, free c e))) (λ e. rw e (joined-once most c (omega arith))))
+          → times c (gathered ls most) ≡ inUseOne w c
+      gathered-whole w used whole =
+          sumBelow-pinned (λ (c : ℕ). times c (gathered ls most)) (inUseOne w) n
+          (λ c l. test (isFree w c) (λ e. rw e (omega (arith, free c e))) (λ e. rw e (gathered-once most c (omega arith))))
           (omega (arith, counted most (omega arith), used-frees w n))
         where
-          free : (c : ℕ) → isFree w c ≡ true → times c (joinedTo ls most) ≡ 0
+          free : (c : ℕ) → isFree w c ≡ true → times c (gathered ls most) ≡ 0
           free c e =
-              atMost? 1 (times c (joinedTo ls most))
-              (λ s. let r = joined-stands most c (omega arith) s in clash e (used (place c) c (r .0) (r .1)))
+              atMost? 1 (times c (gathered ls most))
+              (λ s. let r = gathered-stands most c (omega arith) s in clash e (used (place c) c (r .0) (r .1)))
               (λ s. omega arith)
 
     -- Where each cell in use stands there once, and no other does, they are as many as are in use.
-    pub joined-count : (w : List ℕ) → ((c : ℕ) → c < n → times c (joinedTo ls most) ≡ inUseOne w c) → length (joinedTo ls most) + frees w n ≡ n
-    joined-count w each =
-        omega (arith, counted most (omega arith), used-frees w n, sumBelow-same (λ (c : ℕ). times c (joinedTo ls most)) (inUseOne w) n each)
+    pub gathered-count : (w : List ℕ) → ((c : ℕ) → c < n → times c (gathered ls most) ≡ inUseOne w c) → length (gathered ls most) + frees w n ≡ n
+    gathered-count w each =
+        omega (arith, counted most (omega arith), used-frees w n, sumBelow-same (λ (c : ℕ). times c (gathered ls most)) (inUseOne w) n each)
 
 -- Where the place goes by the deadline, the lists together rise exactly if each does.
 module _ (w : List ℕ) (ls : ℕ → List ℕ) where
   -- Each list of lists that rise together rises.
-  pub rises-each : (k i : ℕ) → i < k → Rises w (joinedTo ls k) → Rises w (ls i)
-  unfolding joinedTo
+  pub rises-each : (k i : ℕ) → i < k → Rises w (gathered ls k) → Rises w (ls i)
+  unfolding gathered
   rises-each zero i h r = absurd (omega arith)
   rises-each (suc k) i h r =
       same? i k
-      (λ e. rw e (rises-rest w (joinedTo ls k) (ls k) r))
-      (λ d. rises-each k i (omega arith) (rises-front w (joinedTo ls k) (ls k) r))
+      (λ e. rw e (rises-rest w (gathered ls k) (ls k) r))
+      (λ d. rises-each k i (omega arith) (rises-front w (gathered ls k) (ls k) r))
 
   module _ (at : ℕ → ℕ) (most : ℕ) (own : (i c : ℕ) → i < most → 1 ≤ times c (ls i) → at (word w c 2) ≡ i) where
     -- Lists that rise each rise together.
-    pub each-rises : (k : ℕ) → k ≤ most → ((i : ℕ) → i < most → Rises w (ls i)) → Rises w (joinedTo ls k)
-    unfolding joinedTo
+    pub each-rises : (k : ℕ) → k ≤ most → ((i : ℕ) → i < most → Rises w (ls i)) → Rises w (gathered ls k)
+    unfolding gathered
     each-rises zero h r = tt
     each-rises (suc k) h r =
-        rises-append w (joinedTo ls k) (ls k) (each-rises k (omega arith) r) (r k (omega arith))
+        rises-append w (gathered ls k) (ls k) (each-rises k (omega arith) r) (r k (omega arith))
         (λ c d s u e.
-        let before : at (word w c 2) < k = joined-stands ls (λ (x : ℕ). at (word w x 2)) most own k c (omega arith) s .0 in
+        let before : at (word w c 2) < k = gathered-stands ls (λ (x : ℕ). at (word w x 2)) most own k c (omega arith) s .0 in
         let here : at (word w d 2) ≡ k = own k d (omega arith) u in
         omega (arith, rw e at before))

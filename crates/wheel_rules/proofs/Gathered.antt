@@ -22,13 +22,9 @@ use Rattle.dial.specs.Shows.{passing, standing, cellsAt}
 use Rattle.dial.proofs.Passing.{passing-none}
 use Rattle.dial.proofs.Selected.{passing-every, passing-append}
 use Rattle.wheel_rules.specs.Rules.{Rises}
+use Rattle.wheel_rules.proofs.Counting.{gathered}
 
--- The cells of the first n lists, list after list.
-unfoldable pub gathered : (ℕ → List ℕ) → ℕ → List ℕ
-gathered ls zero = []
-gathered ls (suc n) = gathered ls n ++ ls n
-
--- A cell stands in them as often as in each list, together.
+-- A cell stands in lists gathered as often as in each of them, together.
 pub times-gathered : (ls : ℕ → List ℕ) (c n : ℕ) → times c (gathered ls n) ≡ sumBelow (λ (i : ℕ). times c (ls i)) n
 unfolding gathered sumBelow
 times-gathered ls c zero = unfold times in refl
@@ -39,16 +35,6 @@ pub all-gathered : (P : ℕ → Type 0) (ls : ℕ → List ℕ) (n : ℕ) → ((
 unfolding gathered
 all-gathered P ls zero h = tt
 all-gathered P ls (suc n) h = all-append P (gathered ls n) (ls n) (all-gathered P ls n (λ i k. h i (omega arith))) (h n (omega arith))
-
--- Cells with equal deadlines rise in two lists, one behind the other, if they do in each and none has a deadline of the other.
-rises-append : (w : List ℕ) (xs ys : List ℕ) → Rises w xs → Rises w ys → All (λ (x : ℕ). All (λ (y : ℕ). word w x 2 ≢ word w y 2) ys) xs
-    → Rises w (xs ++ ys)
-rises-append w [] ys r s apart = s
-rises-append w (x ∷ xs) ys r s apart = (
-  all-append (λ (y : ℕ). word w x 2 ≡ word w y 2 → word w x 1 < word w y 1) xs ys (r .0)
-      (all-map (λ y d e. absurd (d e)) ys (apart .0)),
-  rises-append w xs ys (r .1) s (apart .1),
-)
 
 -- The entries of cells that rise are stable.
 pub rises-stable : (w : List ℕ) (xs : List ℕ) → Rises w xs → Stable (map (entryIn w) xs)
@@ -112,14 +98,3 @@ module _ (w : List ℕ) (t : ℕ) (ls : ℕ → List ℕ) where
         (λ d.
         rw (gathered-found k (omega arith) i (omega arith))
         (rw (found-none i (ls k) (all-map (λ c e q. d (sym q ∙ e)) (ls k) (own k (omega arith)))) (append-nil (ls i))))
-
-    -- They rise together if they rise in each list: cells of equal deadline stand in one.
-    pub gathered-rises : ((i : ℕ) → i < n → Rises w (ls i)) → (k : ℕ) → k ≤ n → Rises w (gathered ls k)
-    unfolding gathered
-    gathered-rises r zero h = tt
-    gathered-rises r (suc k) h =
-        rises-append w (gathered ls k) (ls k) (gathered-rises r k (omega arith)) (r k (omega arith))
-        (all-map
-        (λ x b.
-        all-map (λ y e q. omega (arith, ap (listOf t) q)) (ls k) (own k (omega arith)))
-        (gathered ls k) (gathered-below k (omega arith)))

@@ -7,7 +7,7 @@ use mathlib.Core.List.{List, _++_}
 use mathlib.Core.Path.{_≡_, refl, sym, ap, _∙_}
 use lib.Dec.{leb, ltb, eqb}
 use lib.ListN.{length, getD, length-append, List·getD-eq-default}
-use borrow.Author.Tests.{leb-true, le-leb, lt-ltb, ltb-true, eqb-true, eq-eqb, ne-eqb}
+use borrow.Author.Tests.{leb-true, le-leb, lt-ltb, ltb-true, eqb-true, eq-eqb}
 use Rattle.cells.specs.Lists.{times}
 use Rattle.cells.specs.Words.{word}
 use Rattle.cells.specs.Stack.{noCell, isFree, frees}
@@ -18,29 +18,21 @@ use Rattle.audits.proofs.Below.{below-each, each-below}
 use Rattle.cells.proofs.Sums.{all-standing}
 use Rattle.cells.proofs.Lists.{all-times}
 use Rattle.cells.proofs.Chains.{chain-once}
+use Rattle.cells.proofs.Used.{in-use-free, not-free-used}
 use Rattle.slots.specs.Rings.{Lists, next, previous, endsOf, slotMarked}
 use Rattle.slots.specs.Stand.{dueList, RingOf, endsAt, hasCells, Stand}
 use Rattle.slots.specs.declared.ring.Ends.{Ends}
 use Rattle.slots.proofs.Linking.{linked-chain}
 use Rattle.slots.proofs.OneRing.{Cells, ring-mark}
+use Rattle.slots.proofs.Standing.{slot-first}
 use Rattle.dial.specs.Turns.{listOf}
+use Rattle.dial.proofs.Numbers.{number-most}
 use Rattle.wheel_rules.specs.Rules.{Listing}
 use Rattle.wheel_rules.specs.AuditTests.{markTest, endsIn, listCells, ringTest, noted, listTest, orderTest}
 use Rattle.dial.specs.declared.state.Dial.{Dial}
 use Rattle.wheel_rules.proofs.Walks.{Own, cells-own, ring-walked, ring-closes}
 use Rattle.wheel_rules.proofs.Rising.{order-decides}
-use Rattle.wheel_rules.proofs.Counting.{joinedTo, inUseOne, times-joined, joined-few, joined-whole, joined-count, rises-each, each-rises}
-use Rattle.wheel_rules.proofs.AuditSteps.{list-most}
-
--- A cell is in use exactly if it is not free.
-pub used-not-free : (w : List ℕ) (c : ℕ) → inUse w c ≡ true → isFree w c ≡ false
-unfolding inUse
-used-not-free w c u = test (isFree w c) (λ e. clash u (rw e)) (λ e. e)
-
--- A cell that is not free is in use.
-pub not-free-used : (w : List ℕ) (c : ℕ) → isFree w c ≡ false → inUse w c ≡ true
-unfolding inUse
-not-free-used w c e = rw e
+use Rattle.wheel_rules.proofs.Counting.{gathered, inUseOne, gathered-times, gathered-few, gathered-whole, gathered-count, rises-each, each-rises}
 
 -- It counts 1 then, and 0 otherwise.
 used-one : (w : List ℕ) (c : ℕ) → cond (inUse w c && true) 1 0 ≡ inUseOne w c
@@ -64,11 +56,6 @@ module _ (l : Lists) where
   abbrev ends : ℕ → Ends
   ends = endsIn (l .first) (l .last) (l .due)
 
-  -- The first cell of a slot.
-  first-same : (i : ℕ) → i < dueList → endsAt l i .first ≡ getD (l .first) i noCell
-  unfolding endsAt endsOf
-  first-same i h = rw (ne-eqb i dueList (λ e. omega arith))
-
   -- Where all marks pass, their words have 64 bits.
   marks-narrow : length (l .marks) ≡ 6 → allBelow 384 (markTest (l .first) (l .marks)) ≡ true → (p : ℕ) → getD (l .marks) p 0 < 2 ^ 64
   unfolding markTest
@@ -85,7 +72,7 @@ module _ (l : Lists) where
   module _ (i : ℕ) (h : i < dueList) (xs : List ℕ) (cells : Cells (l .words) xs) (ring : RingOf (l .words) (endsAt l i) xs) where
     -- The slot has no first cell exactly if it has no cell.
     none-first : eqb (getD (l .first) i noCell) noCell ≡ not (hasCells xs)
-    none-first = rw (first-same i h) at (ring-mark (l .words) xs cells (endsAt l i) ring)
+    none-first = rw (slot-first l i (λ e. omega arith)) at (ring-mark (l .words) xs cells (endsAt l i) ring)
 
     -- A mark that passes says whether the slot has a cell.
     mark-true : markTest (l .first) (l .marks) i ≡ true → slotMarked (l .marks) i ≡ hasCells xs
@@ -132,7 +119,7 @@ module _ (l : Lists) where
     stands-own i c e =
         let one = and-true (ltb c n) (inUse w c && eqb (placeOf c) i) e in
         let two = and-true (inUse w c) (eqb (placeOf c) i) (one .1) in
-        record { inside = ltb-true _ _ (one .0); used = used-not-free w c (two .0); place = eqb-true _ _ (two .1) }
+        record { inside = ltb-true _ _ (one .0); used = in-use-free w c (two .0); place = eqb-true _ _ (two .1) }
 
     -- What passes the tests of arrays and lists has lists that keep the rules.
     module _
@@ -148,10 +135,10 @@ module _ (l : Lists) where
       ls i = listCells w n t i (ends i) (n - length (noted w n t ends i))
 
       -- What was noted of the lists below k is their cells, one list behind the other.
-      noted-joined : (k : ℕ) → noted w n t ends k ≡ joinedTo ls k
-      unfolding noted joinedTo
-      noted-joined zero = refl
-      noted-joined (suc k) = ap (λ (xs : List ℕ). xs ++ ls k) (noted-joined k)
+      noted-gathered : (k : ℕ) → noted w n t ends k ≡ gathered ls k
+      unfolding noted gathered
+      noted-gathered zero = refl
+      noted-gathered (suc k) = ap (λ (xs : List ℕ). xs ++ ls k) (noted-gathered k)
 
       -- A cell noted of list i belongs there.
       own : (i c : ℕ) → 1 ≤ times c (ls i) → Own w n t i c
@@ -204,15 +191,15 @@ module _ (l : Lists) where
           test (stands i c)
           (λ e.
           let o : Own w n t i c = stands-own i c e in
-          let all : times c (joinedTo ls 385) ≡ inUseOne w c =
-          joined-whole ls placeOf 385 (λ j x k s. own j x s .place) n (λ j x k s. own j x s .inside) (λ j x k. once j x (omega arith)) w
+          let all : times c (gathered ls 385) ≡ inUseOne w c =
+          gathered-whole ls placeOf 385 (λ j x k s. own j x s .place) n (λ j x k s. own j x s .inside) (λ j x k. once j x (omega arith)) w
           (λ j x k s. own j x s .used)
-          (rw (noted-joined 385) at whole)
+          (rw (noted-gathered 385) at whole)
           c
           (o .inside)
           in
-          let there : times c (joinedTo ls 385) ≡ times c (ls i) =
-          rw (o .place, lt-ltb i 385 (omega arith)) at (times-joined ls placeOf 385 (λ j x k s. own j x s .place) 385 c (omega arith))
+          let there : times c (gathered ls 385) ≡ times c (ls i) =
+          rw (o .place, lt-ltb i 385 (omega arith)) at (gathered-times ls placeOf 385 (λ j x k s. own j x s .place) 385 c (omega arith))
           in
           rw e (sym there ∙ all ∙ rw (o .used)))
           (λ e. rw e (atMost? 1 (times c (ls i)) (λ k. clash (own-stands i c (own i c k)) e) (λ k. omega arith)))
@@ -224,7 +211,7 @@ module _ (l : Lists) where
             cells = ls;
             stand = stand;
             placed = placed;
-            stable = λ i h. rises-each w ls 385 i (omega arith) (rw (noted-joined 385) at (order-decides w (noted w n t ends 385) .0 order));
+            stable = λ i h. rises-each w ls 385 i (omega arith) (rw (noted-gathered 385) at (order-decides w (noted w n t ends 385) .0 order));
           }
 
     -- Lists that keep the rules pass the tests.
@@ -248,25 +235,25 @@ module _ (l : Lists) where
       kept-ring i h = r .stand .rings i h
 
       -- So list k is walked whole where the lists before it were.
-      walk-whole : (k : ℕ) → k < 385 → (m : ℕ) → m ≡ length (joinedTo (r .cells) k)
+      walk-whole : (k : ℕ) → k < 385 → (m : ℕ) → m ≡ length (gathered (r .cells) k)
           → (listCells w n t k (ends k) (n - m) ≡ r .cells k) × (ringTest w n t k (ends k) (n - m) ≡ true)
-      unfolding joinedTo
+      unfolding gathered
       walk-whole k h m e =
           ring-closes w n t k small (ends k) (r .cells k) (n - m) (kept-ring k (omega arith))
           (all-standing (Own w n t k) (r .cells k) (λ c s. kept-own k c h s))
           (omega (
             arith,
-            length-append (joinedTo (r .cells) k) (r .cells k),
-            joined-few (r .cells) placeOf 385 kept-place n kept-inside (λ j x s. r .stand .once j x (omega arith)) (suc k) (omega arith),
+            length-append (gathered (r .cells) k) (r .cells k),
+            gathered-few (r .cells) placeOf 385 kept-place n kept-inside (λ j x s. r .stand .once j x (omega arith)) (suc k) (omega arith),
           ))
 
       -- What is noted of the lists below k is their cells.
-      kept-noted : (k : ℕ) → k ≤ 385 → noted w n t ends k ≡ joinedTo (r .cells) k
-      kept-noted zero h = unfold noted in unfold joinedTo in refl
+      kept-noted : (k : ℕ) → k ≤ 385 → noted w n t ends k ≡ gathered (r .cells) k
+      kept-noted zero h = unfold noted in unfold gathered in refl
       kept-noted (suc k) h = go (kept-noted k (omega arith))
         where
-          go : noted w n t ends k ≡ joinedTo (r .cells) k → noted w n t ends (suc k) ≡ joinedTo (r .cells) (suc k)
-          go e = unfold noted in unfold joinedTo in cc (e, walk-whole k (omega arith) (length (noted w n t ends k)) (ap length e) .0)
+          go : noted w n t ends k ≡ gathered (r .cells) k → noted w n t ends (suc k) ≡ gathered (r .cells) (suc k)
+          go e = unfold noted in unfold gathered in cc (e, walk-whole k (omega arith) (length (noted w n t ends k)) (ap length e) .0)
 
       -- Each list passes its test.
       pub listing-rings : allBelow 385 (listTest w n t ends) ≡ true
@@ -275,22 +262,22 @@ module _ (l : Lists) where
           (λ i h. unfold listTest in walk-whole i h (length (noted w n t ends i)) (ap length (kept-noted i (omega arith))) .1)
 
       -- A cell stands in the lists together if it is in use.
-      kept-all : (c : ℕ) → c < n → times c (joinedTo (r .cells) 385) ≡ inUseOne w c
+      kept-all : (c : ℕ) → c < n → times c (gathered (r .cells) 385) ≡ inUseOne w c
       kept-all c h =
-          times-joined (r .cells) placeOf 385 kept-place 385 c (omega arith)
-          ∙ rw (lt-ltb (placeOf c) 385 (omega (arith, list-most t (word w c 2))))
-          (r .placed (placeOf c) c (list-most t (word w c 2))
+          gathered-times (r .cells) placeOf 385 kept-place 385 c (omega arith)
+          ∙ rw (lt-ltb (placeOf c) 385 (omega (arith, number-most t (word w c 2))))
+          (r .placed (placeOf c) c (number-most t (word w c 2))
           ∙ rw (lt-ltb c n h, eq-eqb (placeOf c) (placeOf c) refl) (used-one w c))
 
       -- As many cells are noted as are in use.
       pub listing-whole : length (noted w n t ends 385) + frees w n ≡ n
-      listing-whole = rw (kept-noted 385 (omega arith)) (joined-count (r .cells) placeOf 385 kept-place n kept-inside w kept-all)
+      listing-whole = rw (kept-noted 385 (omega arith)) (gathered-count (r .cells) placeOf 385 kept-place n kept-inside w kept-all)
 
       -- Equal deadlines pass the test of their order.
       pub listing-order : orderTest w (noted w n t ends 385) ≡ true
       listing-order =
           rw (kept-noted 385 (omega arith))
-          (order-decides w (joinedTo (r .cells) 385) .1
+          (order-decides w (gathered (r .cells) 385) .1
           (each-rises w (r .cells) (listOf t) 385 kept-place 385 (omega arith) (λ i h. r .stable i (omega arith))))
 
       -- Each mark passes its test.

@@ -12,18 +12,13 @@ use Rattle.cells.specs.Lists.{All, times}
 use Rattle.cells.specs.Words.{word}
 use Rattle.audits.specs.Sorted.{Sorted, sortBy, cellLeq}
 use Rattle.cells.proofs.Cases.{test, same?, and-true, or-true}
-use Rattle.cells.proofs.Lists.{all-map, all-both, times-here, times-past}
+use Rattle.cells.proofs.Lists.{all-map, all-both, times-here, times-past, all-append}
 use Rattle.cells.proofs.Sums.{all-standing}
 use Rattle.audits.proofs.Sorting.{sort-sorted}
 use Rattle.audits.proofs.Stability.{picked, picked-here, picked-past, sort-stable}
 use Rattle.audits.proofs.CellOrder.{cellLeq-total, cellLeq-trans, by-one-field, leq-same}
 use Rattle.wheel_rules.specs.Rules.{Rises}
 use Rattle.wheel_rules.specs.AuditTests.{riseTest, neighboursRise, orderTest}
-
--- What holds of each element of two lists holds of each of them joined.
-all-append : (P : ℕ → Type 0) (xs ys : List ℕ) → All P xs → All P ys → All P (xs ++ ys)
-all-append P [] ys h k = k
-all-append P (x ∷ xs) ys h k = (h .0, all-append P xs ys (h .1) k)
 
 -- What holds of each of two lists joined holds of each of the first.
 all-front : (P : ℕ → Type 0) (xs ys : List ℕ) → All P (xs ++ ys) → All P xs

@@ -12,7 +12,7 @@ use Rattle.cells.specs.Lists.{All, times, sumBelow}
 use Rattle.cells.specs.Words.{word}
 use Rattle.cells.specs.Rules.{inUse}
 use Rattle.cells.proofs.Cases.{test, atMost?, and-true}
-use Rattle.cells.proofs.Lists.{all-map, all-image}
+use Rattle.cells.proofs.Lists.{all-times, all-map, all-image}
 use Rattle.cells.proofs.Sums.{sumBelow-zero, sumBelow-same, sumBelow-one, all-standing}
 use Rattle.cells.proofs.Memory.{word-no-field}
 use Rattle.meaning.specs.Entries.{Entry}
@@ -31,8 +31,9 @@ use Rattle.wheel_rules.specs.Shown.{DialShows}
 use Rattle.wheel_rules.specs.Rules.{usedMask, freeMask, WheelSound}
 use Rattle.dial.specs.declared.state.Dial.{Dial}
 use Rattle.wheel_rules.proofs.Masks.{used-unowned, used-last, free-others}
-use Rattle.wheel_rules.proofs.Gathered.{gathered, times-gathered, all-gathered, gathered-found, gathered-rises, rises-stable, cells-read}
+use Rattle.wheel_rules.proofs.Gathered.{times-gathered, all-gathered, gathered-found, rises-stable, cells-read}
 use Rattle.wheel_rules.proofs.ShownSound.{shown-sound}
+use Rattle.wheel_rules.proofs.Counting.{gathered, each-rises}
 
 -- The model that is read off lists and numbers with a stack of free cells.
 unfoldable pub modelRead : Lists → Dial → (ℕ → List ℕ) → List ℕ → Plain
@@ -133,7 +134,8 @@ module _ (l : Lists) (d : Dial) (r : WheelSound l d) where
   unfolding all entries
   stable =
       rises-stable (l .words) (gathered (r .listing .cells) 385)
-      (gathered-rises (l .words) (d .clock) (r .listing .cells) 385 own (λ i h. r .listing .stable i (omega arith)) 385 (omega arith))
+      (each-rises (l .words) (r .listing .cells) (listOf (d .clock)) 385 (λ i c h k. all-times _ (r .listing .cells i) (own i h) c k) 385 (omega arith)
+      (λ i h. r .listing .stable i (omega arith)))
 
   -- The lists of all places are those of the entries.
   lists : Stand l (cellsAt (d .clock) entries)
