@@ -11,6 +11,11 @@ pub test {ℓ} : {P : Type ℓ} (t : Bool) → (t ≡ true → P) → (t ≡ fal
 test true f g = f refl
 test false f g = g refl
 
+-- What holds of both arms of a test, each where it is taken, holds of the test.
+pub by-arms : {A : Type 0} (P : A → Type 0) (t : Bool) (x y : A) → (t ≡ true → P x) → (t ≡ false → P y) → P (cond t x y)
+by-arms P true x y f g = f refl
+by-arms P false x y f g = g refl
+
 -- Two numbers are equal or not.
 pub same? {ℓ} : {P : Type ℓ} (x y : ℕ) → (x ≡ y → P) → ((x ≡ y → ⊥) → P) → P
 same? x y f g = test (eqb x y) (λ e. f (eqb-true x y e)) (λ e. g (eqb-false x y e))

@@ -1,11 +1,12 @@
 -- An advance makes the words no more and no fewer, and leaves those past the last cell, whatever words and arrays are.
 -- Assumes nothing.
 use Prim.Native.Nat.{ℕ, zero, suc, _-_}
-use mathlib.Core.Bool.{Bool, true, false, cond, _||_}
+use mathlib.Core.Bool.{_||_}
 use lib.Dec.{ltb, eqb}
 use Rattle.cells.specs.Stack.{noCell}
 use Rattle.cells.specs.Words.{word}
 use Rattle.cells.proofs.Framed.{Framed, framed-none, framed-on, released-framed}
+use Rattle.cells.proofs.Cases.{by-arms}
 use Rattle.slots.specs.Rings.{firstMarked, emptySlot, leaveDue}
 use Rattle.slots.specs.Stand.{dueList, endsAt}
 use Rattle.slots.proofs.Framing.{join-framed, leave-due-framed, empty-framed}
@@ -15,22 +16,13 @@ use Rattle.dial.specs.Turns.{State, listOf, refile, walk, turned, enter,
 abbrev pub FramedState : State → State → Type 0
 FramedState z y = Framed (z .lists .words) (y .lists .words)
 
--- Either of two states.
-state-arms : (z x y : State) (t : Bool) → FramedState z x → FramedState z y → FramedState z (cond t x y)
-state-arms z x y true a b = a
-state-arms z x y false a b = b
-
-ended-arms : (z : State) (x y : Ended) (t : Bool) → FramedState z (x .state) → FramedState z (y .state) → FramedState z (cond t x y .state)
-ended-arms z x y true a b = a
-ended-arms z x y false a b = b
-
 walk-framed : (k c : ℕ) (z : State) → FramedState z (walk k c z)
 unfolding walk refile
 walk-framed zero c z = framed-none (z .lists .words)
 walk-framed (suc k) c z =
     let next : State = refile c z in
-    state-arms z _ _ (eqb c noCell) (framed-none (z .lists .words))
-    (framed-on (z .lists .words) (next .lists .words) _ (join-framed (z .lists) (listOf (z .clock) (word (z .lists .words) c 2)) c)
+    by-arms (FramedState z) (eqb c noCell) _ _ (λ e. framed-none (z .lists .words))
+    (λ e. framed-on (z .lists .words) (next .lists .words) _ (join-framed (z .lists) (listOf (z .clock) (word (z .lists .words) c 2)) c)
     (walk-framed k (word (z .lists .words) c 4) next))
 
 enter-framed : (t i : ℕ) (z : State) → FramedState z (enter t i z)
@@ -50,8 +42,8 @@ hand-out-framed : (k : ℕ) (z : State) → FramedState z (handOut k z)
 unfolding handOut
 hand-out-framed zero z = framed-none (z .lists .words)
 hand-out-framed (suc k) z =
-    state-arms z _ _ (eqb (z .lists .due .first) noCell) (framed-none (z .lists .words))
-    (framed-on (z .lists .words) (fire z .lists .words) _ (fire-framed z) (hand-out-framed k (fire z)))
+    by-arms (FramedState z) (eqb (z .lists .due .first) noCell) _ _ (λ e. framed-none (z .lists .words))
+    (λ e. framed-on (z .lists .words) (fire z .lists .words) _ (fire-framed z) (hand-out-framed k (fire z)))
 
 pub turns-framed : (k target : ℕ) (z : State) → FramedState z (turns k target z .state)
 unfolding turns turned
@@ -61,8 +53,11 @@ turns-framed (suc k) target z =
     let i : ℕ = firstMarked (y .lists .marks) in
     let t : ℕ = wakeAt (y .clock) i in
     let first : FramedState z y = hand-out-framed (room z - z .fired) z in
-    ended-arms z _ _ (eqb (y .lists .due .first) noCell)
-    (ended-arms z _ _ (eqb i dueList || ltb target t) first
-    (framed-on (z .lists .words) (y .lists .words) _ first
+    by-arms (λ (x : Ended). FramedState z (x .state)) (eqb (y .lists .due .first) noCell) _ _
+    (λ e.
+    by-arms (λ (x : Ended). FramedState z (x .state)) (eqb i dueList || ltb target t) _ _
+    (λ h. first)
+    (λ h.
+    framed-on (z .lists .words) (y .lists .words) _ first
     (framed-on (y .lists .words) (enter t i y .lists .words) _ (enter-framed t i y) (turns-framed k target (enter t i y)))))
-    first
+    (λ e. first)

@@ -5,6 +5,7 @@ use mathlib.Core.List.{List}
 use lib.Dec.{eqb}
 use Rattle.cells.specs.Words.{word, putWord}
 use Rattle.cells.proofs.Framed.{Framed, framed-none, framed-on, framed-put}
+use Rattle.cells.proofs.Cases.{by-arms}
 use Rattle.meaning.specs.Heap.{parent}
 use Rattle.heap.specs.Seats.{
   Walk,
@@ -25,7 +26,6 @@ use Rattle.heap.specs.Seats.{
   countSelf,
   resettleWalk,
 }
-use Rattle.heap.proofs.Permutes.{by-arms}
 use Rattle.heap.proofs.Seating.{seated-size, seated-tail}
 
 framed-seat : (w : List ℕ) (p c : ℕ) → Framed w (seated w p c)

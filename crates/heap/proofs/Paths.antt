@@ -7,11 +7,11 @@ use mathlib.Core.List.{List, [], _∷_}
 use mathlib.Core.Path.{_≡_, refl, _∙_}
 use lib.ListN.{length}
 use Rattle.cells.specs.Lists.{All, times}
-use Rattle.cells.proofs.Cases.{test, same?}
+use Rattle.cells.proofs.Cases.{test, same?, by-arms}
 use Rattle.cells.proofs.Lists.{times-here, times-past}
 use Rattle.meaning.specs.Entries.{Entry}
 use Rattle.meaning.specs.Heap.{parent, exchange, early, rise, earlier, child, sink, settle, steps, levels}
-use Rattle.heap.proofs.Permutes.{by-arms, parent-atMost, earlier-filled, early-above}
+use Rattle.heap.proofs.Permutes.{parent-atMost, earlier-filled, early-above}
 use Rattle.heap.proofs.Levels.{steps-parent, steps-levels, steps-child}
 use Rattle.heap.proofs.Children.{child-below}
 use Rattle.heap.proofs.Exchanges.{length-exchange}

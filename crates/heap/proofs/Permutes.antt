@@ -3,7 +3,7 @@
 use Prim.Native.Nat.{ℕ, zero, suc, _-_, _≤_, _<_}
 use native.Mathlib.Nat.{div-le-self}
 use native.Mathlib.Omega.{arith}
-use mathlib.Core.Bool.{Bool, true, false, cond}
+use mathlib.Core.Bool.{true}
 use mathlib.Core.List.{List, [], _∷_, _++_, map}
 use mathlib.Core.Path.{_≡_, refl, sym, ap, _∙_}
 use lib.Dec.{ltb, eqb}
@@ -11,17 +11,12 @@ use lib.ListN.{length, getD, take, set, length-append, length-set}
 use lib.Seq.{getD-set-same, getD-set-other, getD-take, length-take-le, take-length, take-suc}
 use borrow.Author.Tests.{ltb-true, eqb-true, eqb-false}
 use Rattle.cells.specs.Lists.{times}
-use Rattle.cells.proofs.Cases.{same?, and-true}
+use Rattle.cells.proofs.Cases.{same?, and-true, by-arms}
 use Rattle.cells.proofs.Lists.{times-append}
 use Rattle.meaning.specs.Entries.{Entry, before, nobody}
 use Rattle.heap.proofs.Exchanges.{length-exchange}
 use Rattle.meaning.specs.Heap.{at, parent, exchange, early, rise, earlier, child, sink, settle, heapPut, heapRemove, heapRekey}
 use Rattle.meaning.proofs.Handles.{map-append}
-
--- What holds of both arms of a test, each where it is taken, holds of the test.
-pub by-arms : {A : Type 0} (P : A → Type 0) (t : Bool) (x y : A) → (t ≡ true → P x) → (t ≡ false → P y) → P (cond t x y)
-by-arms P true x y f g = f refl
-by-arms P false x y f g = g refl
 
 -- A parent stands no further back than its child.
 pub parent-atMost : (d p : ℕ) → parent d p ≤ p - 1

@@ -8,10 +8,9 @@ use mathlib.Core.List.{List}
 use mathlib.Core.Path.{_≡_, sym, _∙_}
 use lib.Dec.{leb, ltb}
 use borrow.Author.Tests.{leb-true, ltb-true, ltb-false, lt-ltb, le-ltb, le-leb, lt-leb}
-use Rattle.cells.proofs.Cases.{and-true, and-false}
+use Rattle.cells.proofs.Cases.{and-true, and-false, by-arms}
 use Rattle.cells.specs.Words.{word, putWord}
 use Rattle.meaning.specs.Heap.{parent}
-use Rattle.heap.proofs.Permutes.{by-arms}
 use Rattle.heap.specs.declared.seats.Seat.{Seat}
 use Rattle.heap.specs.Seats.{
   ranked,

@@ -9,10 +9,10 @@ use mathlib.Core.List.{List}
 use mathlib.Core.Path.{_≡_, refl, sym, ap, _∙_}
 use lib.Dec.{ltb}
 use borrow.Author.Tests.{ltb-true, lt-ltb, le-ltb, eq-eqb, ne-eqb}
-use Rattle.cells.proofs.Cases.{test, and-true}
+use Rattle.cells.proofs.Cases.{test, and-true, by-arms}
 use Rattle.cells.specs.Words.{word, putWord}
 use Rattle.meaning.specs.Heap.{parent}
-use Rattle.heap.proofs.Permutes.{by-arms, parent-atMost}
+use Rattle.heap.proofs.Permutes.{parent-atMost}
 use Rattle.heap.proofs.Positions.{first-behind}
 use Rattle.heap.proofs.SeatSteps.{child-within, reach-many}
 use Rattle.heap.specs.declared.seats.Seat.{Seat}
