@@ -1,6 +1,10 @@
 // Both engines through the doors of crates/test_doors, each as a row of numbers of which any may be damaged.
 
+use crate::asks::{self, Ask};
+use crate::lent::{begin, Lent};
+use crate::model::Expected;
 use crate::rules;
+use crate::{model_queue, model_wheel};
 
 extern "C" {
     #[allow(clippy::too_many_arguments)]
@@ -22,11 +26,31 @@ extern "C" {
 pub const MISFIT: u64 = 65535;
 
 // A call: its number at the door, and its arguments.
-#[derive(Clone, Copy)]
+#[derive(Clone, Copy, Debug)]
 pub struct Call {
     pub name: &'static str,
     pub number: u64,
     pub args: [u64; 3],
+}
+
+impl Call {
+    // The quick call for a checked one.
+    pub fn quick(self) -> Call {
+        Call { number: self.number + 16, ..self }
+    }
+}
+
+// A checked call by its name.
+pub fn call(name: &'static str, args: [u64; 3]) -> Call {
+    let number = match name {
+        "set-up" => 0,
+        "arm" | "put" => 1,
+        "move" | "rekey" => 2,
+        "cancel" | "remove" => 3,
+        "advance" | "take" => 4,
+        _ => 5,
+    };
+    Call { name, number, args }
 }
 
 // An answer: kind 0 is a refusal, whose number is the first of the numbers.
@@ -45,8 +69,8 @@ impl Told {
 pub trait Engine: Clone + PartialEq {
     // How many numbers stand in the head and in the memory, the memory's last.
     fn size(&self) -> usize;
-    fn words(&self) -> &Vec<u64>;
-    fn words_mut(&mut self) -> &mut Vec<u64>;
+    fn words(&self) -> &Lent<u64>;
+    fn words_mut(&mut self) -> &mut Lent<u64>;
     fn get(&self, i: usize) -> u64;
     // Writes number i, where it fits.
     fn set(&mut self, i: usize, x: u64) -> bool;
@@ -57,22 +81,45 @@ pub trait Engine: Clone + PartialEq {
     fn passes(&self) -> Result<(), &'static str>;
     fn audit(&self) -> u64;
     // Makes a call, with output words for an advance.
-    fn call(&mut self, call: Call, out: &mut [u64]) -> Result<Told, u64>;
-    // One of each checked call, by the handle of an entry if there is one.
-    fn calls(&self) -> Vec<Call>;
+    fn call(&mut self, call: Call, out: &mut Lent<u64>) -> Result<Told, u64>;
+    // Whether the guard words around what is lent are as they were.
+    fn unharmed(&self) -> bool;
+    // One of each checked call, by the handle of an entry if there is one; which entry and which numbers, the turn says.
+    fn calls(&self, turn: u64) -> [Call; 5];
+    // The same state with another counter.
+    fn with_counter(&self, counter: u64) -> Self;
+    // What a call on this state, which passes the rules, must answer and leave.
+    fn expected(&self, call: Call, out: &Lent<u64>) -> Expected<Self>;
+    // What an accepted set-up must leave.
+    fn fresh(&self, arg: u64) -> Self;
+    // Many calls for a state that passes the rules.
+    fn asks(&self) -> Vec<Ask>;
 
     fn head_size(&self) -> usize {
         self.size() - self.words().len()
     }
-    // The handle of the first entry, or one that names nothing.
-    fn handle(&self) -> (u64, u64) {
+    // The words beyond the last cell.
+    fn rest(&self) -> &[u64] {
         let w = self.words();
-        let used = (0..w.len() / 8).find(|c| w[8 * c] != 0);
+        &w[w.len() / 8 * 8..]
+    }
+    // The handle of an entry, or one that names nothing.
+    fn handle(&self, turn: u64) -> (u64, u64) {
+        let w = self.words();
+        let cells = w.len() / 8;
+        let from = if cells == 0 { 0 } else { turn as usize % cells.min(16) };
+        let used = (from..cells).chain(0..from).find(|c| w[8 * c] != 0);
         used.map_or((0, 1), |c| (c as u64, w[8 * c]))
     }
 }
 
-fn told_of(given: u64, told: [u64; 6]) -> Result<Told, u64> {
+// Six words for an answer, with guard words around them.
+fn room_to_tell() -> Lent<u64> {
+    Lent::filled(0, 6)
+}
+
+fn told_of(given: u64, told: &Lent<u64>) -> Result<Told, u64> {
+    assert!(told.unharmed(), "a word beside the answer was written");
     if given != 0 {
         return Err(given);
     }
@@ -82,19 +129,35 @@ fn told_of(given: u64, told: [u64; 6]) -> Result<Told, u64> {
 const WHEEL_NUMBERS: [&str; 6] = ["clock", "due first", "due last", "cells", "free", "counter"];
 const QUEUE_NUMBERS: [&str; 5] = ["arity", "count", "cells", "free", "counter"];
 
-#[derive(Clone, PartialEq)]
+#[derive(PartialEq)]
 pub struct Wheel {
-    pub first: Vec<u16>,
-    pub last: Vec<u16>,
-    pub marks: Vec<u64>,
-    pub numbers: Vec<u64>,
-    pub words: Vec<u64>,
+    pub first: Lent<u16>,
+    pub last: Lent<u16>,
+    pub marks: Lent<u64>,
+    pub numbers: Lent<u64>,
+    pub words: Lent<u64>,
 }
 
 impl Wheel {
-    // Slices of a head's lengths and this many words, before a set-up: filled with ones, so that what it leaves unwritten shows.
+    // Slices of a head's lengths and this many words, before a set-up: filled, so that what it leaves unwritten shows.
     pub fn blank(len: usize) -> Wheel {
-        Wheel { first: vec![1; 384], last: vec![1; 384], marks: vec![1; 6], numbers: vec![1; 6], words: vec![1; len] }
+        let ends = Lent::filled(1, 384);
+        let six = Lent::filled(1, 6);
+        Wheel { first: ends.clone(), last: ends, marks: six.clone(), numbers: six, words: Lent::pattern(len) }
+    }
+}
+
+impl Clone for Wheel {
+    fn clone(&self) -> Wheel {
+        let (first, last, marks) = (self.first.clone(), self.last.clone(), self.marks.clone());
+        Wheel { first, last, marks, numbers: self.numbers.clone(), words: self.words.clone() }
+    }
+    fn clone_from(&mut self, from: &Wheel) {
+        self.first.clone_from(&from.first);
+        self.last.clone_from(&from.last);
+        self.marks.clone_from(&from.marks);
+        self.numbers.clone_from(&from.numbers);
+        self.words.clone_from(&from.words);
     }
 }
 
@@ -102,10 +165,10 @@ impl Engine for Wheel {
     fn size(&self) -> usize {
         780 + self.words.len()
     }
-    fn words(&self) -> &Vec<u64> {
+    fn words(&self) -> &Lent<u64> {
         &self.words
     }
-    fn words_mut(&mut self) -> &mut Vec<u64> {
+    fn words_mut(&mut self) -> &mut Lent<u64> {
         &mut self.words
     }
     fn get(&self, i: usize) -> u64 {
@@ -159,8 +222,9 @@ impl Engine for Wheel {
             )
         }
     }
-    fn call(&mut self, call: Call, out: &mut [u64]) -> Result<Told, u64> {
-        let mut told = [0; 6];
+    fn call(&mut self, call: Call, out: &mut Lent<u64>) -> Result<Told, u64> {
+        begin(call.number);
+        let mut told = room_to_tell();
         let (f, l, m, n, w) = (&mut self.first, &mut self.last, &mut self.marks, &mut self.numbers, &mut self.words);
         let [a, b, c] = call.args;
         let given = unsafe {
@@ -169,30 +233,59 @@ impl Engine for Wheel {
                 n.as_mut_ptr(), n.len(), out.as_mut_ptr(), out.len(), told.as_mut_ptr(), 6, call.number, a, b, c,
             )
         };
-        told_of(given, told)
+        told_of(given, &told)
     }
-    fn calls(&self) -> Vec<Call> {
-        let (cell, ticket) = self.handle();
-        let clock = self.numbers[0];
-        vec![
-            Call { name: "arm", number: 1, args: [clock + 5, 77, 0] },
-            Call { name: "move", number: 2, args: [cell, ticket, clock + 4200] },
-            Call { name: "cancel", number: 3, args: [cell, ticket, 0] },
-            Call { name: "advance", number: 4, args: [rules::LAST_TICK.min(clock + 4200), 0, 0] },
-            Call { name: "next wake", number: 5, args: [0; 3] },
+    fn unharmed(&self) -> bool {
+        let halves = self.first.unharmed() && self.last.unharmed();
+        halves && self.marks.unharmed() && self.numbers.unharmed() && self.words.unharmed()
+    }
+    fn calls(&self, turn: u64) -> [Call; 5] {
+        let (cell, ticket) = self.handle(turn);
+        let clock = self.numbers[0].min(rules::LAST_TICK);
+        let far = [4200, 70, 0, rules::LAST_TICK][turn as usize % 4];
+        [
+            call("arm", [clock + [5, 70, 5000][turn as usize % 3], 77, 0]),
+            call("move", [cell, ticket, clock + 4200]),
+            call("cancel", [cell, ticket, 0]),
+            call("advance", [rules::LAST_TICK.min(clock + far), 0, 0]),
+            call("next wake", [0; 3]),
         ]
+    }
+    fn with_counter(&self, counter: u64) -> Wheel {
+        let mut v = self.clone();
+        v.numbers[5] = counter;
+        v
+    }
+    fn expected(&self, call: Call, out: &Lent<u64>) -> Expected<Wheel> {
+        model_wheel::expected(self, call, out)
+    }
+    fn fresh(&self, start: u64) -> Wheel {
+        model_wheel::Model::fresh(self.words.len() as u64 / 8, start).write(&self.words)
+    }
+    fn asks(&self) -> Vec<Ask> {
+        asks::of_wheel(self)
     }
 }
 
-#[derive(Clone, PartialEq)]
+#[derive(PartialEq)]
 pub struct Queue {
-    pub numbers: Vec<u64>,
-    pub words: Vec<u64>,
+    pub numbers: Lent<u64>,
+    pub words: Lent<u64>,
 }
 
 impl Queue {
     pub fn blank(len: usize) -> Queue {
-        Queue { numbers: vec![1; 5], words: vec![1; len] }
+        Queue { numbers: Lent::filled(1, 5), words: Lent::pattern(len) }
+    }
+}
+
+impl Clone for Queue {
+    fn clone(&self) -> Queue {
+        Queue { numbers: self.numbers.clone(), words: self.words.clone() }
+    }
+    fn clone_from(&mut self, from: &Queue) {
+        self.numbers.clone_from(&from.numbers);
+        self.words.clone_from(&from.words);
     }
 }
 
@@ -200,10 +293,10 @@ impl Engine for Queue {
     fn size(&self) -> usize {
         5 + self.words.len()
     }
-    fn words(&self) -> &Vec<u64> {
+    fn words(&self) -> &Lent<u64> {
         &self.words
     }
-    fn words_mut(&mut self) -> &mut Vec<u64> {
+    fn words_mut(&mut self) -> &mut Lent<u64> {
         &mut self.words
     }
     fn get(&self, i: usize) -> u64 {
@@ -231,23 +324,42 @@ impl Engine for Queue {
         let (n, w) = (&self.numbers, &self.words);
         unsafe { wastelquib_test_queue_audit(w.as_ptr(), w.len(), n.as_ptr(), n.len()) }
     }
-    fn call(&mut self, call: Call, _: &mut [u64]) -> Result<Told, u64> {
-        let mut told = [0; 6];
+    fn call(&mut self, call: Call, _: &mut Lent<u64>) -> Result<Told, u64> {
+        begin(call.number);
+        let mut told = room_to_tell();
         let (n, w) = (&mut self.numbers, &mut self.words);
         let [a, b, c] = call.args;
         let given = unsafe {
             wastelquib_test_queue(w.as_mut_ptr(), w.len(), n.as_mut_ptr(), n.len(), told.as_mut_ptr(), 6, call.number, a, b, c)
         };
-        told_of(given, told)
+        told_of(given, &told)
     }
-    fn calls(&self) -> Vec<Call> {
-        let (cell, ticket) = self.handle();
-        vec![
-            Call { name: "put", number: 1, args: [3, 77, 0] },
-            Call { name: "rekey", number: 2, args: [cell, ticket, 6] },
-            Call { name: "remove", number: 3, args: [cell, ticket, 0] },
-            Call { name: "take", number: 4, args: [0; 3] },
-            Call { name: "first", number: 5, args: [0; 3] },
+    fn unharmed(&self) -> bool {
+        self.numbers.unharmed() && self.words.unharmed()
+    }
+    fn calls(&self, turn: u64) -> [Call; 5] {
+        let (cell, ticket) = self.handle(turn);
+        let key = [6, 0, u64::MAX][turn as usize % 3];
+        [
+            call("put", [[3, u64::MAX, 0][turn as usize % 3], 77, 0]),
+            call("rekey", [cell, ticket, key]),
+            call("remove", [cell, ticket, 0]),
+            call("take", [0; 3]),
+            call("first", [0; 3]),
         ]
+    }
+    fn with_counter(&self, counter: u64) -> Queue {
+        let mut q = self.clone();
+        q.numbers[4] = counter;
+        q
+    }
+    fn expected(&self, call: Call, out: &Lent<u64>) -> Expected<Queue> {
+        model_queue::expected(self, call, out)
+    }
+    fn fresh(&self, arity: u64) -> Queue {
+        model_queue::Model::fresh(self.words.len() as u64 / 8, arity).write(&self.words)
+    }
+    fn asks(&self) -> Vec<Ask> {
+        asks::of_queue(self)
     }
 }
