@@ -1,8 +1,11 @@
 // States written word by word at random, so that they keep to the rules and no more: calls need not lead to them. In a list of the wheel entries of
 // different deadlines stand in any order, a heap is any that is ordered, cells and tickets are shuffled. The audit must pass every one of them.
 
-use crate::doors::{Queue, Wheel};
-use crate::rules::{place, DUE, LAST_TICK, NO_CELL};
+use crate::lent::Lent;
+use crate::model_wheel::write_lists;
+use crate::queue_door::Queue;
+use crate::rules::{place, LAST_TICK, NO_CELL};
+use crate::wheel_door::Wheel;
 
 // A small generator of numbers, so that runs repeat.
 pub struct Dice(pub u64);
@@ -68,15 +71,6 @@ fn memory(dice: &mut Dice, n: u64, free_cells: u64) -> Made {
     Made { words, used, free, counter }
 }
 
-// Links the entries of a list, which stand in any order but for equal deadlines, and gives its ends.
-fn link(words: &mut [u64], list: &[u64]) -> (u64, u64) {
-    for (i, &c) in list.iter().enumerate() {
-        words[8 * c as usize + 4] = *list.get(i + 1).unwrap_or(&NO_CELL);
-        words[8 * c as usize + 5] = if i == 0 { NO_CELL } else { list[i - 1] };
-    }
-    (*list.first().unwrap_or(&NO_CELL), *list.last().unwrap_or(&NO_CELL))
-}
-
 // Shuffles a list, and then sorts each group of equal deadlines by order number where it stands.
 fn any_order(dice: &mut Dice, words: &[u64], list: &mut [u64]) {
     dice.shuffle(list);
@@ -101,21 +95,12 @@ pub fn wheel(dice: &mut Dice, n: u64, free_cells: u64) -> Wheel {
         m.words[8 * c as usize + 2] = deadline;
         lists[place(clock, deadline)].push(c);
     }
+    lists.iter_mut().for_each(|list| any_order(dice, &m.words, list));
     let cells = m.words.len() as u64 / 8;
-    let mut v = Wheel { first: vec![4096; 384], last: vec![4096; 384], marks: vec![0; 6], numbers: Vec::new(), words: m.words };
-    let mut due = (NO_CELL, NO_CELL);
-    for (i, list) in lists.iter_mut().enumerate().filter(|(_, l)| !l.is_empty()) {
-        any_order(dice, &v.words, list);
-        let ends = link(&mut v.words, list);
-        if i == DUE {
-            due = ends;
-        } else {
-            v.first[i] = ends.0 as u16;
-            v.last[i] = ends.1 as u16;
-            v.marks[i / 64] |= 1 << (i % 64);
-        }
-    }
-    v.numbers = vec![clock, due.0, due.1, cells, m.free, m.counter];
+    let empty = Lent::filled(NO_CELL as u16, 384);
+    let numbers = Lent::of(&[clock, NO_CELL, NO_CELL, cells, m.free, m.counter]);
+    let mut v = Wheel { first: empty.clone(), last: empty, marks: Lent::filled(0, 6), numbers, words: Lent::of(&m.words) };
+    write_lists(&mut v, &lists);
     v
 }
 
@@ -138,5 +123,5 @@ pub fn queue(dice: &mut Dice, n: u64, free_cells: u64) -> Queue {
         m.words[8 * c as usize + 5] = p as u64;
     }
     let cells = m.words.len() as u64 / 8;
-    Queue { numbers: vec![arity, used.len() as u64, cells, m.free, m.counter], words: m.words }
+    Queue { numbers: Lent::of(&[arity, used.len() as u64, cells, m.free, m.counter]), words: Lent::of(&m.words) }
 }

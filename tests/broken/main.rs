@@ -1,91 +1,45 @@
-// Damages head and memory of both engines word by word and asks every checked call and the audit: they must answer 9, or no, exactly if a rule of
-// rules.rs is broken, and a call that answers 9 must leave head, memory and output as they were. Built and run by tests/broken-memory.
+// Damages head and memory of both engines word by word and asks every call and the audit. The checked calls must answer 9, or the audit no, exactly if
+// a rule of rules.rs is broken, and a call that answers 9 must leave head, memory and output as they were; the quick calls must come back and keep to
+// what is lent. Where no rule is broken, checked and quick calls must answer and leave what the models of document 01 say. Built and run by
+// tests/broken-memory.
 
+mod asks;
+mod count;
 mod damage;
 mod doors;
+mod lent;
 mod made;
+mod model;
+mod model_queue;
+mod model_wheel;
+mod queue_door;
 mod rules;
+mod sound;
 mod states;
+mod wheel_door;
 
-use doors::{Call, Engine, Queue, Wheel, MISFIT};
+use count::Count;
+use doors::Engine;
+use queue_door::Queue;
 use states::State;
-use std::collections::BTreeMap;
+use wheel_door::Wheel;
 
-// What was counted, and the first differences in words.
-#[derive(Default)]
-struct Count {
-    states: u64,
-    damages: u64,
-    refused: u64,
-    accepted: u64,
-    calls: u64,
-    rules: BTreeMap<&'static str, u64>,
-    differences: Vec<String>,
-}
-
-// How many states of each engine are made at random.
+// How many states of each engine are made at random, and how many of the largest memory are changed many times for quick calls alone.
 const MADE: u64 = 1500;
-
-// The output before a call: two records' room.
-const OUT: [u64; 8] = [11, 12, 13, 14, 15, 16, 17, 18];
+const LARGE: u64 = 4;
 
 impl Count {
-    fn differs(&mut self, told: String) {
-        if self.differences.len() < 20 {
-            println!("DIFFERS: {told}");
-        }
-        self.differences.push(told);
-    }
-
-    // One damaged state: the audit, then each of the calls on a copy of it.
-    fn try_one<E: Engine>(&mut self, e: &E, calls: &[Call], scratch: &mut E, what: &dyn Fn() -> String) {
-        let passes = e.passes();
-        self.damages += 1;
-        match passes {
-            Ok(()) => self.accepted += 1,
-            Err(rule) => {
-                self.refused += 1;
-                *self.rules.entry(rule).or_default() += 1;
-            }
-        }
-        let said = e.audit();
-        if said != u64::from(passes.is_ok()) {
-            self.differs(format!("{}: the audit says {said}, the rules {passes:?}", what()));
-        }
-        for &call in calls {
-            self.try_call(e, call, passes, scratch, what);
-        }
-    }
-
-    fn try_call<E: Engine>(&mut self, e: &E, call: Call, passes: Result<(), &'static str>, scratch: &mut E, what: &dyn Fn() -> String) {
-        self.calls += 1;
-        scratch.clone_from(e);
-        let mut out = OUT;
-        let told = scratch.call(call, &mut out).expect("the slices fit");
-        if told.is_nine() != passes.is_err() {
-            self.differs(format!("{}: {} answers {told:?}, the rules say {passes:?}", what(), call.name));
-        }
-        if told.kind == 0 && (*scratch != *e || out != OUT) {
-            self.differs(format!("{}: {} is refused with {} and changed something", what(), call.name, told.numbers[0]));
-        }
-        if told.kind != 0 {
-            if let Err(rule) = scratch.passes() {
-                self.differs(format!("{}: after {} a rule is broken: {rule}", what(), call.name));
-            }
-        }
-    }
-
     // Every word with every value, and the swaps. `cells` is the head's number of cells.
     fn damage_all<E: Engine>(&mut self, s: &State<E>, cells: usize) {
         self.states += 1;
-        let calls = s.engine.calls();
+        self.ask_all(&s.engine, &|| s.name.clone());
         let mut e = s.engine.clone();
         let mut scratch = e.clone();
         for i in 0..e.size() {
             let old = e.get(i);
             for x in damage::values(&s.engine, i) {
                 if e.set(i, x) {
-                    self.try_one(&e, &calls, &mut scratch, &|| format!("{}: {} from {old} to {x}", s.name, s.engine.name(i)));
+                    self.try_one(&e, &mut scratch, &|| format!("{}: {} from {old} to {x}", s.name, s.engine.name(i)));
                 }
             }
             e.set(i, old);
@@ -93,22 +47,22 @@ impl Count {
         for (i, j) in damage::swaps(&s.engine) {
             let (x, y) = (e.get(i), e.get(j));
             if e.set(i, y) && e.set(j, x) {
-                self.try_one(&e, &calls, &mut scratch, &|| format!("{}: {} and {} swapped", s.name, s.engine.name(i), s.engine.name(j)));
+                self.try_one(&e, &mut scratch, &|| format!("{}: {} and {} swapped", s.name, s.engine.name(i), s.engine.name(j)));
             }
             e.set(i, x);
             e.set(j, y);
         }
         let others = damage::lengths(&s.engine);
         for e in others.iter().chain(&damage::recounted(&others, cells)) {
-            self.try_one(e, &calls, &mut scratch, &|| format!("{}: {} words, {} cells", s.name, e.words().len(), e.get(cells)));
+            self.try_one(e, &mut scratch, &|| format!("{}: {} words, {} cells", s.name, e.words().len(), e.get(cells)));
         }
     }
 
     // The largest memory: every number of the head, and all words of a few cells, with a few values.
     fn damage_some<E: Engine>(&mut self, s: &State<E>, numbers: usize) {
         self.states += 1;
+        self.ask_all(&s.engine, &|| s.name.clone());
         let head = s.engine.head_size();
-        let calls = s.engine.calls();
         let mut scratch = s.engine.clone();
         let cells = [0, 1, 2, 3, 119, 120, 121, 4094, 4095].map(|c| head + 8 * c);
         let words = cells.iter().flat_map(|&i| i..i + 8);
@@ -116,7 +70,7 @@ impl Count {
             for x in [0, 1, s.engine.get(i) + 1, 4095, 4096, 4097] {
                 let mut e = s.engine.clone();
                 if x != e.get(i) && e.set(i, x) {
-                    self.try_one(&e, &calls, &mut scratch, &|| format!("{}: {} to {x}", s.name, e.name(i)));
+                    self.try_one(&e, &mut scratch, &|| format!("{}: {} to {x}", s.name, e.name(i)));
                 }
             }
         }
@@ -125,47 +79,45 @@ impl Count {
     // A state made at random: it must pass, and then up to three of its words are changed at once, again and again.
     fn damage_made<E: Engine>(&mut self, made: E, turns: u64, dice: &mut made::Dice) {
         self.states += 1;
-        let calls = made.calls();
+        let counter = [made.store()[2], u64::MAX - 1, u64::MAX][self.states as usize % 3];
+        self.ask_with(&made, counter, &|| "a made state".to_string());
         let mut scratch = made.clone();
-        if made.passes().is_err() {
-            self.differs(format!("a made state breaks a rule: {:?}", made.passes()));
-        }
-        self.try_one(&made, &calls, &mut scratch, &|| "a made state".to_string());
+        self.try_one(&made, &mut scratch, &|| "a made state".to_string());
         for turn in 0..turns {
             let mut e = made.clone();
             let mut told = String::from("a made state");
             for _ in 0..=turn % 3 {
-                let size = if dice.below(4) == 0 { e.head_size() } else { e.words().len() };
-                let from = if size == e.head_size() { 0 } else { e.head_size() };
-                let i = from + dice.below(size as u64) as usize;
+                let i = any_word(&e, dice);
                 let x = dice.one_of(&damage::values(&made, i));
                 if e.set(i, x) {
                     told += &format!(", {} to {x}", e.name(i));
                 }
             }
             if e != made {
-                self.try_one(&e, &calls, &mut scratch, &|| told.clone());
+                self.try_one(&e, &mut scratch, &|| told.clone());
             }
         }
     }
 
-    // A refusal of set-up: by its number, and nothing is changed.
-    fn refuses_set_up<E: Engine>(&mut self, e: E, arg: u64, number: u64) {
-        let mut after = e.clone();
-        let told = after.call(Call { name: "set-up", number: 0, args: [arg, 0, 0] }, &mut []).expect("the slices fit");
-        if told.kind != 0 || told.numbers[0] != number || after != e {
-            self.differs(format!("set-up of {} words with {arg} answers {told:?}", e.words().len()));
+    // Quick calls on the largest memory with many words changed: links to any cell, positions, ends, loads.
+    fn quick_only<E: Engine>(&mut self, made: &E, words: u64, dice: &mut made::Dice) {
+        let mut e = made.clone();
+        for _ in 0..words {
+            let i = any_word(&e, dice);
+            let random = dice.next();
+            let x = dice.one_of(&[random % 4097, random % 4097, random % 64, random]);
+            e.set(i, x);
         }
+        self.try_quick(&e, &mut made.clone(), &|| format!("{words} words of the largest memory changed"));
     }
+}
 
-    // Slices of other lengths than a head's: the doors say so, and call nothing.
-    fn misfits<E: Engine>(&mut self, e: E) {
-        let mut after = e.clone();
-        let given = e.calls().into_iter().map(|c| after.call(c, &mut [])).all(|g| g == Err(MISFIT));
-        if !given || e.audit() != MISFIT || after != e {
-            self.differs("slices of another length are not answered with 65535".to_string());
-        }
+// A word of the head at one turn of four, else of the memory.
+fn any_word<E: Engine>(e: &E, dice: &mut made::Dice) -> usize {
+    if dice.below(4) == 0 {
+        return dice.below(e.head_size() as u64) as usize;
     }
+    e.head_size() + dice.below(e.words().len() as u64) as usize
 }
 
 fn set_ups(count: &mut Count) {
@@ -177,6 +129,14 @@ fn set_ups(count: &mut Count) {
     count.refuses_set_up(Wheel::blank(16), rules::LAST_TICK + 1, 5);
     for arity in [0, 1, 9, u64::MAX] {
         count.refuses_set_up(Queue::blank(16), arity, 2);
+    }
+    for len in (8..42).chain(8 * 4096..8 * 4097) {
+        for start in [0, 4161, rules::LAST_TICK] {
+            count.accepts_set_up(Wheel::blank(len), start);
+        }
+        for arity in 2..=8 {
+            count.accepts_set_up(Queue::blank(len), arity);
+        }
     }
 }
 
@@ -212,9 +172,18 @@ fn made_states(count: &mut Count) {
         let queue = made::queue(&mut dice, n, free);
         count.damage_made(queue, turns, &mut dice);
     }
+    for turn in 0..LARGE {
+        let wheel = made::wheel(&mut dice, 4096, turn);
+        let queue = made::queue(&mut dice, 4096, turn);
+        for words in (0..60).map(|i| [1, 20, 1000, 30_000][i % 4]) {
+            count.quick_only(&wheel, words, &mut dice);
+            count.quick_only(&queue, words, &mut dice);
+        }
+    }
 }
 
 fn main() {
+    lent::watch();
     let mut count = Count::default();
     set_ups(&mut count);
     other_slices(&mut count);
@@ -234,11 +203,14 @@ fn main() {
             count.differs(format!("no damage broke the rule: {rule}"));
         }
     }
+    count.all_given();
     println!("{:8}  checked calls", count.calls);
-    let (s, d, r, a) = (count.states, count.damages, count.refused, count.accepted);
+    println!("{:8}  checked and quick calls compared with the model, {} states with every call", 2 * count.asked, count.sound);
+    let (s, d, r, a, q) = (count.states, count.damages, count.refused, count.accepted, count.quick + count.asked);
+    let start = format!("broken memory: {s} states, {d} damages, {r} refused, {a} accepted, {q} quick calls");
     if !count.differences.is_empty() {
-        println!("broken memory: {s} states, {d} damages, {r} refused, {a} accepted, {} differences", count.differences.len());
+        println!("{start}, {} differences", count.differences.len());
         std::process::exit(1);
     }
-    println!("broken memory: {s} states, {d} damages, {r} refused, {a} accepted, every answer as the rules say");
+    println!("{start}, every answer as the rules say");
 }

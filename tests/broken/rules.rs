@@ -179,7 +179,7 @@ fn heap_ordered(q: &Queue) -> bool {
 }
 
 // The digit of a tick at a position, base 64.
-fn digit(tick: u64, position: u32) -> u64 {
+pub fn digit(tick: u64, position: u32) -> u64 {
     tick / 64u64.pow(position) % 64
 }
 

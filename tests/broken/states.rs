@@ -1,7 +1,10 @@
 // The states that are damaged: each is reached by checked calls from a set-up, and must pass the rules.
 
-use crate::doors::{Call, Engine, Queue, Told, Wheel};
+use crate::doors::{call, Engine, Told};
+use crate::lent::Lent;
+use crate::queue_door::Queue;
 use crate::rules::LAST_TICK;
+use crate::wheel_door::Wheel;
 
 pub struct State<E> {
     pub name: String,
@@ -13,8 +16,8 @@ fn state<E: Engine>(name: &str, engine: E) -> State<E> {
     State { name: name.to_string(), engine }
 }
 
-fn accepted<E: Engine>(e: &mut E, name: &'static str, number: u64, args: [u64; 3], room: usize) -> Told {
-    let told = e.call(Call { name, number, args }, &mut vec![0; 4 * room]).expect("the slices fit");
+fn accepted<E: Engine>(e: &mut E, name: &'static str, args: [u64; 3], room: usize) -> Told {
+    let told = e.call(call(name, args), &mut Lent::filled(0, 4 * room)).expect("the slices fit");
     assert_ne!(told.kind, 0, "{name} {args:?} is refused with {}", told.numbers[0]);
     told
 }
@@ -22,40 +25,40 @@ fn accepted<E: Engine>(e: &mut E, name: &'static str, number: u64, args: [u64; 3
 // Memory of n cells with some words beyond the last.
 fn wheel(n: usize, rest: usize, start: u64) -> Wheel {
     let mut v = Wheel::blank(8 * n + rest);
-    accepted(&mut v, "set-up", 0, [start, 0, 0], 0);
+    accepted(&mut v, "set-up", [start, 0, 0], 0);
     v
 }
 
 impl Wheel {
     fn arm(&mut self, deadline: u64) -> (u64, u64) {
-        let told = accepted(self, "arm", 1, [deadline, deadline + 1000, 0], 0);
+        let told = accepted(self, "arm", [deadline, deadline + 1000, 0], 0);
         (told.numbers[0], told.numbers[1])
     }
     fn arm_all(&mut self, deadlines: &[u64]) -> Vec<(u64, u64)> {
         deadlines.iter().map(|&e| self.arm(e)).collect()
     }
     fn move_to(&mut self, h: (u64, u64), deadline: u64) {
-        accepted(self, "move", 2, [h.0, h.1, deadline], 0);
+        accepted(self, "move", [h.0, h.1, deadline], 0);
     }
     fn cancel(&mut self, h: (u64, u64)) {
-        accepted(self, "cancel", 3, [h.0, h.1, 0], 0);
+        accepted(self, "cancel", [h.0, h.1, 0], 0);
     }
     // Kind 1 is done, 2 is more.
     fn advance(&mut self, target: u64, room: usize, kind: u64) {
-        assert_eq!(accepted(self, "advance", 4, [target, 0, 0], room).kind, kind, "advance to {target}");
+        assert_eq!(accepted(self, "advance", [target, 0, 0], room).kind, kind, "advance to {target}");
     }
 }
 
 // Entries at all six levels.
 fn all_levels() -> Wheel {
-    let mut v = wheel(6, 0, 0);
+    let mut v = wheel(6, 1, 0);
     v.arm_all(&[1, 64, 4096, 262_144, 16_777_216, LAST_TICK]);
     v
 }
 
 // Several entries in one slot, two of equal deadline, with order numbers that moves have made leave gaps.
 fn shared_slot() -> Wheel {
-    let mut v = wheel(7, 0, 0);
+    let mut v = wheel(7, 2, 0);
     let h = v.arm_all(&[4161, 4161, 4100, 4161, 9]);
     v.move_to(h[1], 4161);
     v.move_to(h[4], 10);
@@ -66,7 +69,7 @@ fn shared_slot() -> Wheel {
 
 // An advance answered more: three of four equals are due, one was moved away and one has a later deadline.
 fn due_list() -> Wheel {
-    let mut v = wheel(7, 0, 5);
+    let mut v = wheel(7, 3, 5);
     let h = v.arm_all(&[70, 70, 70, 70, 70, 71, 6000]);
     v.advance(100, 1, 2);
     v.move_to(h[2], 200);
@@ -76,7 +79,7 @@ fn due_list() -> Wheel {
 
 // The due list with room 0, in which all that are due stay.
 fn due_no_room() -> Wheel {
-    let mut v = wheel(4, 0, 0);
+    let mut v = wheel(4, 4, 0);
     v.arm_all(&[64, 64, 90]);
     v.advance(80, 0, 2);
     v
@@ -84,7 +87,7 @@ fn due_no_room() -> Wheel {
 
 // Cancels have put the free stack out of order.
 fn stack_out_of_order() -> Wheel {
-    let mut v = wheel(7, 0, 1000);
+    let mut v = wheel(7, 5, 1000);
     let h = v.arm_all(&[1001, 1100, 1100, 70_000, 1001, 1063]);
     v.cancel(h[3]);
     v.cancel(h[0]);
@@ -94,7 +97,7 @@ fn stack_out_of_order() -> Wheel {
 
 // A slot was walked, and its entries went to lower places in turn.
 fn cascaded() -> Wheel {
-    let mut v = wheel(6, 0, 0);
+    let mut v = wheel(6, 6, 0);
     v.arm_all(&[4161, 4162, 4161, 4200, 50, 300_000]);
     v.advance(4100, 2, 1);
     v
@@ -102,7 +105,7 @@ fn cascaded() -> Wheel {
 
 // The clock at the last tick, everything due.
 fn at_the_end() -> Wheel {
-    let mut v = wheel(3, 0, LAST_TICK - 70);
+    let mut v = wheel(3, 7, LAST_TICK - 70);
     v.arm_all(&[LAST_TICK, LAST_TICK]);
     v.advance(LAST_TICK, 0, 2);
     v
@@ -149,26 +152,26 @@ pub fn wheels() -> Vec<State<Wheel>> {
 
 fn queue(n: usize, rest: usize, arity: u64) -> Queue {
     let mut q = Queue::blank(8 * n + rest);
-    accepted(&mut q, "set-up", 0, [arity, 0, 0], 0);
+    accepted(&mut q, "set-up", [arity, 0, 0], 0);
     q
 }
 
 impl Queue {
     fn put(&mut self, key: u64) -> (u64, u64) {
-        let told = accepted(self, "put", 1, [key, key ^ 5000, 0], 0);
+        let told = accepted(self, "put", [key, key ^ 5000, 0], 0);
         (told.numbers[0], told.numbers[1])
     }
     fn put_all(&mut self, keys: &[u64]) -> Vec<(u64, u64)> {
         keys.iter().map(|&k| self.put(k)).collect()
     }
     fn rekey(&mut self, h: (u64, u64), key: u64) {
-        accepted(self, "rekey", 2, [h.0, h.1, key], 0);
+        accepted(self, "rekey", [h.0, h.1, key], 0);
     }
     fn remove(&mut self, h: (u64, u64)) {
-        accepted(self, "remove", 3, [h.0, h.1, 0], 0);
+        accepted(self, "remove", [h.0, h.1, 0], 0);
     }
     fn take(&mut self) {
-        accepted(self, "take", 4, [0; 3], 0);
+        accepted(self, "take", [0; 3], 0);
     }
 }
 
@@ -188,17 +191,18 @@ fn worked(arity: u64, rest: usize) -> Queue {
 pub fn queues() -> Vec<State<Queue>> {
     let mut all = Vec::new();
     for arity in [2, 3, 8] {
-        let mut some = queue(6, 0, arity);
+        let rest = arity as usize - 1;
+        let mut some = queue(6, rest, arity);
         some.put_all(&[5, 3, 5, 1]);
         let mut full = queue(11, 0, arity);
         full.put_all(&[5, 5, 5, 4, 5, u64::MAX, 0, 5, 6, 5, 5]);
-        let mut equals = queue(5, 0, arity);
+        let mut equals = queue(5, 3, arity);
         equals.put_all(&[7, 7, 7, 7, 7]);
         all.push(state(&format!("queue of arity {arity}, empty"), queue(4, 0, arity)));
         all.push(state(&format!("queue of arity {arity}, some"), some));
         all.push(state(&format!("queue of arity {arity}, full"), full));
         all.push(state(&format!("queue of arity {arity}, equal keys"), equals));
-        all.push(state(&format!("queue of arity {arity}, after rekeys and removes"), worked(arity, 0)));
+        all.push(state(&format!("queue of arity {arity}, after rekeys and removes"), worked(arity, 8 - arity as usize)));
     }
     let mut one = queue(1, 0, 2);
     one.put(4);
@@ -224,7 +228,7 @@ pub fn large_wheel() -> State<Wheel> {
 }
 
 pub fn large_queue() -> State<Queue> {
-    let mut q = queue(4096, 0, 4);
+    let mut q = queue(4096, 5, 4);
     let mut handles = Vec::new();
     for i in 0..120u64 {
         handles.push(q.put(i * i * i % 97));

@@ -1,33 +1,22 @@
-// The ready queue's set-up, audit and checked calls, the head lent as five numbers: the arity, the number of entries, the cells, the top of the free
-// stack, the counter.
+// The ready queue's set-up, audit, checked calls and quick calls, the head lent as five numbers: the arity, the number of entries, the cells, the top of
+// the free stack, the counter.
 
 use crate::lent::Told;
-use crate::lent::answer as told_answer;
 use crate::lent::read;
-use crate::lent::refused;
 use crate::lent::write_six;
+use crate::queue_told::Turn;
+use crate::queue_told::of_first;
+use crate::queue_told::of_put;
+use crate::queue_told::of_rekey;
+use crate::queue_told::of_remove;
+use crate::queue_told::of_set_up;
+use crate::queue_told::of_take;
 use cells::store::Store;
 use queue::audit::audit;
-use queue::checked::first;
-use queue::checked::put;
-use queue::checked::rekey;
-use queue::checked::remove;
-use queue::checked::take;
-use queue::head::FirstAnswer;
-use queue::head::Found;
+use queue::checked;
 use queue::head::Head;
-use queue::head::PutAnswer;
-use queue::head::RekeyAnswer;
-use queue::head::RemoveAnswer;
-use queue::head::SetUp;
-use queue::head::TakeAnswer;
+use queue::quick;
 use queue::setup::set_up;
-
-// What a call answers, and the head that it hands back.
-struct Turn {
-    told: Told,
-    head: Head,
-}
 
 // The head that lent numbers hold.
 fn head_of(numbers: &[u64]) -> Head {
@@ -59,134 +48,49 @@ fn put_head(numbers: &mut [u64], h: Head) {
     );
 }
 
-// An entry that was found: key, cell, ticket, load, and the moves.
-fn told_found(found: Found, moves: u64) -> Told {
-    Told {
-        kind: 1,
-        a: found.key,
-        b: found.cell,
-        c: found.ticket,
-        d: found.load,
-        e: moves,
-    }
-}
-
-// Set-up: accepted as kind 1; a refused one keeps the head.
-fn run_set_up(w: &mut [u64], h: Head, arity: u64) -> Turn {
-    let answer = set_up(w, arity);
-    match answer {
-        SetUp::Refused(i) => Turn {
-            told: refused(i),
-            head: h,
-        },
-        SetUp::Ready(head) => Turn {
-            told: told_answer(1, 0, 0, 0),
-            head,
-        },
-    }
-}
-
-// Put: cell, ticket and moves.
-fn run_put(w: &mut [u64], h: Head, key: u64, load: u64) -> Turn {
-    let done = put(w, h, key, load);
-    let answer = done.answer;
-    let head = done.head;
-    match answer {
-        PutAnswer::Refused(i) => Turn {
-            told: refused(i),
-            head,
-        },
-        PutAnswer::Entered(c, k, moves) => Turn {
-            told: told_answer(1, c, k, moves),
-            head,
-        },
-    }
-}
-
-// First: the entry.
-fn run_first(w: &[u64], h: Head) -> Turn {
-    let answer = first(w, h);
-    match answer {
-        FirstAnswer::Refused(i) => Turn {
-            told: refused(i),
-            head: h,
-        },
-        FirstAnswer::Stands(found) => Turn {
-            told: told_found(found, 0),
-            head: h,
-        },
-    }
-}
-
-// Take: the entry and the moves.
-fn run_take(w: &mut [u64], h: Head) -> Turn {
-    let done = take(w, h);
-    let answer = done.answer;
-    let head = done.head;
-    match answer {
-        TakeAnswer::Refused(i) => Turn {
-            told: refused(i),
-            head,
-        },
-        TakeAnswer::Took(found, moves) => Turn {
-            told: told_found(found, moves),
-            head,
-        },
-    }
-}
-
-// Rekey: the moves.
-fn run_rekey(w: &mut [u64], h: Head, c: u64, k: u64, key: u64) -> Turn {
-    let done = rekey(w, h, c, k, key);
-    let answer = done.answer;
-    let head = done.head;
-    match answer {
-        RekeyAnswer::Refused(i) => Turn {
-            told: refused(i),
-            head,
-        },
-        RekeyAnswer::Rekeyed(moves) => Turn {
-            told: told_answer(1, moves, 0, 0),
-            head,
-        },
-    }
-}
-
-// Remove: the load and the moves.
-fn run_remove(w: &mut [u64], h: Head, c: u64, k: u64) -> Turn {
-    let done = remove(w, h, c, k);
-    let answer = done.answer;
-    let head = done.head;
-    match answer {
-        RemoveAnswer::Refused(i) => Turn {
-            told: refused(i),
-            head,
-        },
-        RemoveAnswer::Removed(load, moves) => Turn {
-            told: told_answer(1, load, moves, 0),
-            head,
-        },
-    }
-}
-
-// The call of this number: 0 set-up, 1 put, 2 rekey, 3 remove, 4 take, else first.
-fn run(w: &mut [u64], h: Head, call: u64, a: u64, b: u64, c: u64) -> Turn {
+// The checked call of this number: 0 set-up, 1 put, 2 rekey, 3 remove, 4 take, else first.
+fn run_checked(w: &mut [u64], h: Head, call: u64, a: u64, b: u64, c: u64) -> Turn {
     if call == 0 {
-        return run_set_up(w, h, a);
+        return of_set_up(set_up(w, a), h);
     }
     if call == 1 {
-        return run_put(w, h, a, b);
+        return of_put(checked::put(w, h, a, b));
     }
     if call == 2 {
-        return run_rekey(w, h, a, b, c);
+        return of_rekey(checked::rekey(w, h, a, b, c));
     }
     if call == 3 {
-        return run_remove(w, h, a, b);
+        return of_remove(checked::remove(w, h, a, b));
     }
     if call == 4 {
-        return run_take(w, h);
+        return of_take(checked::take(w, h));
     }
-    run_first(w, h)
+    of_first(checked::first(w, h), h)
+}
+
+// The quick call of this number: 17 put, 18 rekey, 19 remove, 20 take, else first.
+fn run_quick(w: &mut [u64], h: Head, call: u64, a: u64, b: u64, c: u64) -> Turn {
+    if call == 17 {
+        return of_put(quick::put(w, h, a, b));
+    }
+    if call == 18 {
+        return of_rekey(quick::rekey(w, h, a, b, c));
+    }
+    if call == 19 {
+        return of_remove(quick::remove(w, h, a, b));
+    }
+    if call == 20 {
+        return of_take(quick::take(w, h));
+    }
+    of_first(quick::first(w, h), h)
+}
+
+// A checked call by a number below 16, a quick call by the same number and 16.
+fn run(w: &mut [u64], h: Head, call: u64, a: u64, b: u64, c: u64) -> Turn {
+    if call < 16 {
+        return run_checked(w, h, call, a, b, c);
+    }
+    run_quick(w, h, call, a, b, c)
 }
 
 // Makes a call, and writes the answer into `told`: 0, or 65535 where there are not five numbers and nothing is called.

@@ -1,36 +1,26 @@
-// The wheel's set-up, audit and checked calls, the head lent as slices: the ends of 384 slots twice, six words of marks, and six numbers (the clock, the
-// first and the last cell of the due list, the cells, the top of the free stack, the counter).
+// The wheel's set-up, audit, checked calls and quick calls, the head lent as slices: the ends of 384 slots twice, six words of marks, and six numbers (the
+// clock, the first and the last cell of the due list, the cells, the top of the free stack, the counter).
 
 use crate::lent::Told;
-use crate::lent::answer as told_answer;
 use crate::lent::copy_ends;
 use crate::lent::copy_words;
 use crate::lent::read;
-use crate::lent::refused;
 use crate::lent::write_six;
+use crate::wheel_told::Turn;
+use crate::wheel_told::of_advance;
+use crate::wheel_told::of_arm;
+use crate::wheel_told::of_cancel;
+use crate::wheel_told::of_move;
+use crate::wheel_told::of_set_up;
+use crate::wheel_told::of_wake;
 use cells::store::Store;
 use slots::ring::Ends;
 use wheel::audit::audit;
-use wheel::checked::advance;
-use wheel::checked::arm;
-use wheel::checked::cancel;
-use wheel::checked::move_to;
-use wheel::checked::next_wake;
-use wheel::head::AdvanceAnswer;
-use wheel::head::ArmAnswer;
-use wheel::head::CancelAnswer;
+use wheel::checked;
 use wheel::head::Dial;
 use wheel::head::Head;
-use wheel::head::MoveAnswer;
-use wheel::head::SetUpAnswer;
-use wheel::head::WakeAnswer;
+use wheel::quick;
 use wheel::setup::set_up;
-
-// What a call answers, and the head that it hands back.
-struct Turn {
-    told: Told,
-    head: Head,
-}
 
 // Whether the slices have a head's lengths.
 fn fits(first: &[u16], last: &[u16], marks: &[u64], numbers: &[u64]) -> bool {
@@ -109,132 +99,49 @@ fn put_head(first: &mut [u16], last: &mut [u16], marks: &mut [u64], numbers: &mu
     put_dial(numbers, dial);
 }
 
-// Set-up: accepted as kind 1; a refused one keeps the head.
-fn run_set_up(w: &mut [u64], h: Head, start: u64) -> Turn {
-    let done = set_up(w, start);
-    let answer = done.answer;
-    let head = done.head;
-    match answer {
-        SetUpAnswer::Refused(i) => Turn {
-            told: refused(i),
-            head: h,
-        },
-        SetUpAnswer::Ready => Turn {
-            told: told_answer(1, 0, 0, 0),
-            head,
-        },
-    }
-}
-
-// Arm: cell and ticket.
-fn run_arm(w: &mut [u64], h: Head, deadline: u64, load: u64) -> Turn {
-    let done = arm(w, h, deadline, load);
-    let answer = done.answer;
-    let head = done.head;
-    match answer {
-        ArmAnswer::Refused(i) => Turn {
-            told: refused(i),
-            head,
-        },
-        ArmAnswer::Armed(c, k) => Turn {
-            told: told_answer(1, c, k, 0),
-            head,
-        },
-    }
-}
-
-// Move: no number.
-fn run_move(w: &mut [u64], h: Head, c: u64, k: u64, deadline: u64) -> Turn {
-    let done = move_to(w, h, c, k, deadline);
-    let answer = done.answer;
-    let head = done.head;
-    match answer {
-        MoveAnswer::Refused(i) => Turn {
-            told: refused(i),
-            head,
-        },
-        MoveAnswer::Moved => Turn {
-            told: told_answer(1, 0, 0, 0),
-            head,
-        },
-    }
-}
-
-// Cancel: the load.
-fn run_cancel(w: &mut [u64], h: Head, c: u64, k: u64) -> Turn {
-    let done = cancel(w, h, c, k);
-    let answer = done.answer;
-    let head = done.head;
-    match answer {
-        CancelAnswer::Refused(i) => Turn {
-            told: refused(i),
-            head,
-        },
-        CancelAnswer::Cancelled(load) => Turn {
-            told: told_answer(1, load, 0, 0),
-            head,
-        },
-    }
-}
-
-// Advance: the number fired, the clock and the moves; done is kind 1, more kind 2.
-fn run_advance(w: &mut [u64], h: Head, target: u64, out: &mut [u64]) -> Turn {
-    let done = advance(w, h, target, out);
-    let answer = done.answer;
-    let head = done.head;
-    match answer {
-        AdvanceAnswer::Refused(i) => Turn {
-            told: refused(i),
-            head,
-        },
-        AdvanceAnswer::Done(n, clock, moves) => Turn {
-            told: told_answer(1, n, clock, moves),
-            head,
-        },
-        AdvanceAnswer::More(n, clock, moves) => Turn {
-            told: told_answer(2, n, clock, moves),
-            head,
-        },
-    }
-}
-
-// Next wake: none is kind 1, a tick kind 2.
-fn run_next_wake(w: &[u64], h: Head) -> Turn {
-    let answer = next_wake(w, h);
-    match answer {
-        WakeAnswer::Refused(i) => Turn {
-            told: refused(i),
-            head: h,
-        },
-        WakeAnswer::Quiet => Turn {
-            told: told_answer(1, 0, 0, 0),
-            head: h,
-        },
-        WakeAnswer::At(tick) => Turn {
-            told: told_answer(2, tick, 0, 0),
-            head: h,
-        },
-    }
-}
-
-// The call of this number: 0 set-up, 1 arm, 2 move, 3 cancel, 4 advance, else next wake.
-fn run(w: &mut [u64], out: &mut [u64], h: Head, call: u64, a: u64, b: u64, c: u64) -> Turn {
+// The checked call of this number: 0 set-up, 1 arm, 2 move, 3 cancel, 4 advance, else next wake.
+fn run_checked(w: &mut [u64], out: &mut [u64], h: Head, call: u64, a: u64, b: u64, c: u64) -> Turn {
     if call == 0 {
-        return run_set_up(w, h, a);
+        return of_set_up(set_up(w, a), h);
     }
     if call == 1 {
-        return run_arm(w, h, a, b);
+        return of_arm(checked::arm(w, h, a, b));
     }
     if call == 2 {
-        return run_move(w, h, a, b, c);
+        return of_move(checked::move_to(w, h, a, b, c));
     }
     if call == 3 {
-        return run_cancel(w, h, a, b);
+        return of_cancel(checked::cancel(w, h, a, b));
     }
     if call == 4 {
-        return run_advance(w, h, a, out);
+        return of_advance(checked::advance(w, h, a, out));
     }
-    run_next_wake(w, h)
+    of_wake(checked::next_wake(w, h), h)
+}
+
+// The quick call of this number: 17 arm, 18 move, 19 cancel, 20 advance, else next wake.
+fn run_quick(w: &mut [u64], out: &mut [u64], h: Head, call: u64, a: u64, b: u64, c: u64) -> Turn {
+    if call == 17 {
+        return of_arm(quick::arm(w, h, a, b));
+    }
+    if call == 18 {
+        return of_move(quick::move_to(w, h, a, b, c));
+    }
+    if call == 19 {
+        return of_cancel(quick::cancel(w, h, a, b));
+    }
+    if call == 20 {
+        return of_advance(quick::advance(w, h, a, out));
+    }
+    of_wake(quick::next_wake(h), h)
+}
+
+// A checked call by a number below 16, a quick call by the same number and 16.
+fn run(w: &mut [u64], out: &mut [u64], h: Head, call: u64, a: u64, b: u64, c: u64) -> Turn {
+    if call < 16 {
+        return run_checked(w, out, h, call, a, b, c);
+    }
+    run_quick(w, out, h, call, a, b, c)
 }
 
 // Makes a call, and writes the answer into `told`: 0, or 65535 where the slices have not a head's lengths and nothing is called.
