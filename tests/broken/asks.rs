@@ -1,7 +1,9 @@
 // The calls that are made on a state which passes the rules: every edge of document 01's refusals, handles of all kinds, and outputs of many lengths.
 
-use crate::doors::{call, Call, Engine, Queue, Wheel};
+use crate::doors::{call, Call, Engine};
+use crate::queue_door::Queue;
 use crate::rules::LAST_TICK;
+use crate::wheel_door::Wheel;
 
 // A call, and the length of the output that is lent with it.
 #[derive(Clone, Copy)]

@@ -25,8 +25,8 @@ pub fn values<E: Engine>(e: &E, i: usize) -> Vec<u64> {
     all
 }
 
-// The pairs of words that are swapped: all of the memory and of the head's numbers with each other, and each end of a slot with a few others. Of the words
-// beyond the last cell only the first.
+// The pairs of words that are swapped: all of the memory and of the head's numbers with each other, and each end of a slot with a few others. Of the
+// words beyond the last cell only the first.
 pub fn swaps<E: Engine>(e: &E) -> Vec<(usize, usize)> {
     let size = e.size() - e.rest().len().saturating_sub(1);
     let plain = |i: &usize| e.bits(*i) == 64 || e.get(*i) != 4096;
@@ -49,7 +49,8 @@ pub fn swaps<E: Engine>(e: &E) -> Vec<(usize, usize)> {
 pub fn lengths<E: Engine>(e: &E) -> Vec<E> {
     let len = e.words().len();
     let mut all = Vec::new();
-    for l in (0..=len + 17).chain([8 * 4096, 8 * 4097, 8 * 65536]).filter(|&l| l != len) {
+    let largest = if len < 24 { 8 * 65536 } else { 8 * 4097 + 1 };
+    for l in (0..=len + 17).chain([8 * 4096, 8 * 4097, largest]).filter(|&l| l != len) {
         let mut other = e.clone();
         other.words_mut().resize(l, 0);
         all.push(other.clone());

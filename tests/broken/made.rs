@@ -1,10 +1,11 @@
 // States written word by word at random, so that they keep to the rules and no more: calls need not lead to them. In a list of the wheel entries of
 // different deadlines stand in any order, a heap is any that is ordered, cells and tickets are shuffled. The audit must pass every one of them.
 
-use crate::doors::{Queue, Wheel};
 use crate::lent::Lent;
 use crate::model_wheel::write_lists;
+use crate::queue_door::Queue;
 use crate::rules::{place, LAST_TICK, NO_CELL};
+use crate::wheel_door::Wheel;
 
 // A small generator of numbers, so that runs repeat.
 pub struct Dice(pub u64);

@@ -1,6 +1,6 @@
-// Damages head and memory of both engines word by word and asks every call and the audit. The checked calls must answer 9, or the audit no, exactly if a
-// rule of rules.rs is broken, and a call that answers 9 must leave head, memory and output as they were; the quick calls must come back and keep to what
-// is lent. Where no rule is broken, checked and quick calls must answer and leave what the models of document 01 say. Built and run by
+// Damages head and memory of both engines word by word and asks every call and the audit. The checked calls must answer 9, or the audit no, exactly if
+// a rule of rules.rs is broken, and a call that answers 9 must leave head, memory and output as they were; the quick calls must come back and keep to
+// what is lent. Where no rule is broken, checked and quick calls must answer and leave what the models of document 01 say. Built and run by
 // tests/broken-memory.
 
 mod asks;
@@ -12,13 +12,17 @@ mod made;
 mod model;
 mod model_queue;
 mod model_wheel;
+mod queue_door;
 mod rules;
 mod sound;
 mod states;
+mod wheel_door;
 
 use count::Count;
-use doors::{Engine, Queue, Wheel};
+use doors::Engine;
+use queue_door::Queue;
 use states::State;
+use wheel_door::Wheel;
 
 // How many states of each engine are made at random, and how many of the largest memory are changed many times for quick calls alone.
 const MADE: u64 = 1500;
@@ -75,7 +79,8 @@ impl Count {
     // A state made at random: it must pass, and then up to three of its words are changed at once, again and again.
     fn damage_made<E: Engine>(&mut self, made: E, turns: u64, dice: &mut made::Dice) {
         self.states += 1;
-        self.ask_all(&made, &|| "a made state".to_string());
+        let counter = [made.store()[2], u64::MAX - 1, u64::MAX][self.states as usize % 3];
+        self.ask_with(&made, counter, &|| "a made state".to_string());
         let mut scratch = made.clone();
         self.try_one(&made, &mut scratch, &|| "a made state".to_string());
         for turn in 0..turns {

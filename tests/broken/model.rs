@@ -1,5 +1,5 @@
-// What a call must answer and leave, by document 01 and docs/LAYOUT.md alone: the part that both engines share. A state that passes the rules is read as
-// a plain list, the call is made on the list, and the list is written down again word by word.
+// What a call must answer and leave, by document 01 and docs/LAYOUT.md alone: the part that both engines share. A state that passes the rules is read
+// as a plain list, the call is made on the list, and the list is written down again word by word.
 
 use crate::doors::{Call, Told};
 use crate::lent::Lent;

@@ -1,8 +1,9 @@
 // The ready queue's calls on a plain list, with the heap's positions beside it.
 
-use crate::doors::{Call, Queue};
+use crate::doors::Call;
 use crate::lent::Lent;
 use crate::model::{accepted, applying, no_such, refusal, told, Expected, Plain};
+use crate::queue_door::Queue;
 
 // The heap has the cells by position.
 pub struct Model {

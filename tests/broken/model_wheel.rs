@@ -1,9 +1,10 @@
 // The wheel's calls on a plain list, with the lists of its slots beside it.
 
-use crate::doors::{Call, Wheel};
+use crate::doors::Call;
 use crate::lent::Lent;
 use crate::model::{accepted, applying, no_such, refusal, told, Expected, Plain};
 use crate::rules::{digit, place, DUE, LAST_TICK, NO_CELL};
+use crate::wheel_door::Wheel;
 
 // Lists by number, the due list last; each has its cells from head to tail.
 pub struct Model {

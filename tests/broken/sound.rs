@@ -64,17 +64,23 @@ impl Count {
         }
     }
 
-    // All of the calls, with the counter as it is, one below its end and at its end.
+    // All of the calls, with the counter as it is, at its last usable value and at its end.
     pub fn ask_all<E: Engine>(&mut self, e: &E, what: &dyn Fn() -> String) {
+        for counter in [e.store()[2], u64::MAX - 1, u64::MAX] {
+            self.ask_with(e, counter, what);
+        }
+    }
+
+    // All of the calls with this counter.
+    pub fn ask_with<E: Engine>(&mut self, e: &E, counter: u64, what: &dyn Fn() -> String) {
         self.sound += 1;
+        let e = e.with_counter(counter);
         let mut scratch = e.clone();
-        for other in [e.clone(), e.with_counter(u64::MAX - 1), e.with_counter(u64::MAX)] {
-            if other.passes().is_err() {
-                self.differs(format!("{}: the state breaks a rule", what()));
-            }
-            for ask in e.asks() {
-                self.ask(&other, ask, &mut scratch, &|| format!("{}, counter {}", what(), other.store()[2]));
-            }
+        if let Err(rule) = e.passes() {
+            self.differs(format!("{}: the state breaks a rule: {rule}", what()));
+        }
+        for ask in e.asks() {
+            self.ask(&e, ask, &mut scratch, &|| format!("{}, counter {counter}", what()));
         }
     }
 

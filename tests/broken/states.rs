@@ -1,8 +1,10 @@
 // The states that are damaged: each is reached by checked calls from a set-up, and must pass the rules.
 
-use crate::doors::{call, Engine, Queue, Told, Wheel};
+use crate::doors::{call, Engine, Told};
 use crate::lent::Lent;
+use crate::queue_door::Queue;
 use crate::rules::LAST_TICK;
+use crate::wheel_door::Wheel;
 
 pub struct State<E> {
     pub name: String,
