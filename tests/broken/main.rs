@@ -1,6 +1,6 @@
-// Damages head and memory of both engines word by word and asks every call and the audit. The checked calls must answer 9, or the audit no, exactly if
-// a rule of rules.rs is broken, and a call that answers 9 must leave head, memory and output as they were; the quick calls must come back and keep to
-// what is lent. Where no rule is broken, checked and quick calls must answer and leave what the models of document 01 say. Built and run by
+// Damages head and memory of both engines word by word and asks every call and the audit. The checked calls must answer 9, or the audit no, exactly
+// if a rule of rules.rs is broken, and a call that answers 9 must leave head, memory and output as they were; the quick calls must come back and keep
+// to what is lent. Where no rule is broken, checked and quick calls must answer and leave what the models of document 01 say. Built and run by
 // tests/broken-memory.
 
 mod asks;

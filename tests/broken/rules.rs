@@ -118,7 +118,9 @@ impl<'a> Store<'a> {
     }
     // Whether no two entries have the same number in this field.
     fn differ(&self, field: u64) -> bool {
-        self.entries().all(|x| self.entries().all(|y| x == y || self.word(x, field) != self.word(y, field)))
+        let mut all: Vec<u64> = self.entries().map(|c| self.word(c, field)).collect();
+        all.sort_unstable();
+        all.windows(2).all(|two| two[0] != two[1])
     }
 }
 
@@ -229,9 +231,8 @@ fn entries_placed(v: &Wheel) -> bool {
 
 fn linked_both_ways(v: &Wheel) -> bool {
     lists(v).into_iter().enumerate().all(|(i, list)| {
-        let mut back = list;
-        back.reverse();
-        walk(v, ends(v, i).1, 5) == Some(back)
+        let back = walk(v, ends(v, i).1, 5);
+        back.is_some_and(|back| back.iter().rev().eq(&list))
     })
 }
 

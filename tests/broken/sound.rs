@@ -2,7 +2,7 @@
 
 use crate::asks::Ask;
 use crate::count::Count;
-use crate::doors::{call, Engine};
+use crate::doors::{call, Call, Engine};
 use crate::lent::Lent;
 
 // Each call's refusals but 9, in document 01's order: each must have been given.
@@ -52,6 +52,14 @@ impl Count {
         *self.given.entry((name, first, first)).or_default() += 1;
         for &other in causes.iter().skip(1) {
             *self.given.entry((name, first, other)).or_default() += 1;
+        }
+    }
+
+    // Each operation once.
+    pub fn ask_each<E: Engine>(&mut self, e: &E, calls: &[Call], scratch: &mut E, what: &dyn Fn() -> String) {
+        for &call in calls {
+            let out = self.asked as usize % 12;
+            self.ask(e, Ask { call, out }, scratch, what);
         }
     }
 
