@@ -6,8 +6,10 @@ use queue::head::RekeyAnswer;
 use queue::head::RemoveAnswer;
 use queue::head::TakeAnswer;
 use script::writing::write_line;
+ghost use mathlib.Core.Bool.{true, false};
 ghost use Rattle.script.specs.Answers.{Laid};
-ghost use Rattle.queue_script.specs.Texts.{badText, refusedText, readyText, putText, firstText, takeText, rekeyText, removeText};
+ghost use Rattle.queue.specs.Answers.{toldPut, toldFirst, toldTake, toldRekey, toldRemove};
+ghost use Rattle.queue_script.specs.Texts.{badText, refusedText, readyText, enteredText, standsText, tookText, rekeyedText, loadText, toldText};
 
 pub fn bad_line(out: &mut [u8], at: usize) -> usize
     ensures { λ r. ⌜ Laid (now (out .entry)) at badText (now (out .exit)) r ⌝ }
@@ -27,63 +29,77 @@ pub fn ready(out: &mut [u8], at: usize, n: u64, d: u64) -> usize
     write_line(out, at, b"queue", &[n], b" arity", &[d], b"")
 }
 
+fn entered(out: &mut [u8], at: usize, c: u64, k: u64, m: u64) -> usize
+    ensures { λ r. ⌜ Laid (now (out .entry)) at (enteredText c k m) (now (out .exit)) r ⌝ }
+{
+    write_line(out, at, b"put", &[c, k], b" moves", &[m], b"")
+}
+
+fn stands(out: &mut [u8], at: usize, key: u64, c: u64, k: u64, x: u64) -> usize
+    ensures { λ r. ⌜ Laid (now (out .entry)) at (standsText key c k x) (now (out .exit)) r ⌝ }
+{
+    write_line(out, at, b"first", &[key, c, k, x], b"", &[], b"")
+}
+
+fn took(out: &mut [u8], at: usize, key: u64, c: u64, k: u64, x: u64, m: u64) -> usize
+    ensures { λ r. ⌜ Laid (now (out .entry)) at (tookText key c k x m) (now (out .exit)) r ⌝ }
+{
+    write_line(out, at, b"took", &[key, c, k, x], b" moves", &[m], b"")
+}
+
+fn rekeyed(out: &mut [u8], at: usize, m: u64) -> usize
+    ensures { λ r. ⌜ Laid (now (out .entry)) at (rekeyedText m) (now (out .exit)) r ⌝ }
+{
+    write_line(out, at, b"rekeyed", &[], b" moves", &[m], b"")
+}
+
+fn load(out: &mut [u8], at: usize, x: u64, m: u64) -> usize
+    ensures { λ r. ⌜ Laid (now (out .entry)) at (loadText x m) (now (out .exit)) r ⌝ }
+{
+    write_line(out, at, b"load", &[x], b" moves", &[m], b"")
+}
+
 pub fn put(out: &mut [u8], at: usize, answer: PutAnswer) -> usize
-    ensures { λ r. ⌜ Laid (now (out .entry)) at (putText answer) (now (out .exit)) r ⌝ }
+    ensures { λ r. ⌜ Laid (now (out .entry)) at (toldText false (toldPut answer)) (now (out .exit)) r ⌝ }
 {
     match answer {
         PutAnswer::Refused(i) => refused(out, at, i),
-        PutAnswer::Entered(c, k, m) => write_line(out, at, b"put", &[c, k], b" moves", &[m], b""),
+        PutAnswer::Entered(c, k, m) => entered(out, at, c, k, m),
     }
 }
 
 pub fn first(out: &mut [u8], at: usize, answer: FirstAnswer) -> usize
-    ensures { λ r. ⌜ Laid (now (out .entry)) at (firstText answer) (now (out .exit)) r ⌝ }
+    ensures { λ r. ⌜ Laid (now (out .entry)) at (toldText false (toldFirst answer)) (now (out .exit)) r ⌝ }
 {
     match answer {
         FirstAnswer::Refused(i) => refused(out, at, i),
-        FirstAnswer::Stands(f) => write_line(
-            out,
-            at,
-            b"first",
-            &[f.key, f.cell, f.ticket, f.load],
-            b"",
-            &[],
-            b"",
-        ),
+        FirstAnswer::Stands(f) => stands(out, at, f.key, f.cell, f.ticket, f.load),
     }
 }
 
 pub fn take(out: &mut [u8], at: usize, answer: TakeAnswer) -> usize
-    ensures { λ r. ⌜ Laid (now (out .entry)) at (takeText answer) (now (out .exit)) r ⌝ }
+    ensures { λ r. ⌜ Laid (now (out .entry)) at (toldText true (toldTake answer)) (now (out .exit)) r ⌝ }
 {
     match answer {
         TakeAnswer::Refused(i) => refused(out, at, i),
-        TakeAnswer::Took(f, m) => write_line(
-            out,
-            at,
-            b"took",
-            &[f.key, f.cell, f.ticket, f.load],
-            b" moves",
-            &[m],
-            b"",
-        ),
+        TakeAnswer::Took(f, m) => took(out, at, f.key, f.cell, f.ticket, f.load, m),
     }
 }
 
 pub fn rekey(out: &mut [u8], at: usize, answer: RekeyAnswer) -> usize
-    ensures { λ r. ⌜ Laid (now (out .entry)) at (rekeyText answer) (now (out .exit)) r ⌝ }
+    ensures { λ r. ⌜ Laid (now (out .entry)) at (toldText false (toldRekey answer)) (now (out .exit)) r ⌝ }
 {
     match answer {
         RekeyAnswer::Refused(i) => refused(out, at, i),
-        RekeyAnswer::Rekeyed(m) => write_line(out, at, b"rekeyed", &[], b" moves", &[m], b""),
+        RekeyAnswer::Rekeyed(m) => rekeyed(out, at, m),
     }
 }
 
 pub fn remove(out: &mut [u8], at: usize, answer: RemoveAnswer) -> usize
-    ensures { λ r. ⌜ Laid (now (out .entry)) at (removeText answer) (now (out .exit)) r ⌝ }
+    ensures { λ r. ⌜ Laid (now (out .entry)) at (toldText false (toldRemove answer)) (now (out .exit)) r ⌝ }
 {
     match answer {
         RemoveAnswer::Refused(i) => refused(out, at, i),
-        RemoveAnswer::Removed(x, m) => write_line(out, at, b"load", &[x], b" moves", &[m], b""),
+        RemoveAnswer::Removed(x, m) => load(out, at, x, m),
     }
 }

@@ -1,5 +1,6 @@
 -- `queue_script::answers::first` meets its contract: a refusal's line, or that of the result. Assumes nothing.
-use Rattle.queue_script.specs.Texts.{firstText}
+use Rattle.queue.specs.Answers.{told, refusal, handed, toldFirst}
+use Rattle.queue_script.specs.Texts.{shownText, answerText}
 use borrow.Author.Needs.{needs}
 use Rattle.queue_script.proofs.answers.first.Statement.{statement}
 use Rattle.queue_script.proofs.answers.first.Tie as tie
@@ -13,37 +14,22 @@ refused-requires c κs = search needs
 enum-known-answer-2 : tie.Need-enum-known-answer-2
 enum-known-answer-2 c = search needs
 
-slice-aggregate-write-line : tie.Need-slice-aggregate-write-line
-slice-aggregate-write-line c = search needs
-
-slice-aggregate-write-line-2 : tie.Need-slice-aggregate-write-line-2
-slice-aggregate-write-line-2 c = search needs
-
-slice-aggregate-write-line-3 : tie.Need-slice-aggregate-write-line-3
-slice-aggregate-write-line-3 c = search needs
-
-slice-aggregate-write-line-4 : tie.Need-slice-aggregate-write-line-4
-slice-aggregate-write-line-4 c = search needs
-
-slice-aggregate-write-line-5 : tie.Need-slice-aggregate-write-line-5
-slice-aggregate-write-line-5 c = search needs
-
-write-line-requires : tie.Need-write-line-requires
-write-line-requires c κs = search needs
+stands-requires : tie.Need-stands-requires
+stands-requires c κs = search needs
 
 same-length : tie.Need-same-length
 same-length c = search needs
 
 returns : tie.Need-returns
-unfolding firstText
+unfolding toldFirst told refusal answerText
 returns c = rw (c .before .before .before .before .before .answer .given .1) (c .before .before .refused .ensures)
 
 same-length-2 : tie.Need-same-length-2
 same-length-2 c = search needs
 
 returns-2 : tie.Need-returns-2
-unfolding firstText
-returns-2 c = rw (c .before .before .before .before .before .before .before .before .before .before .answer2 .given .1) (c .before .before .write-line .ensures)
+unfolding toldFirst told answerText handed shownText
+returns-2 c = rw (c .before .before .before .before .before .answer2 .given .1) (c .before .before .stands .ensures)
 
 pub first-spec : {M : Type 1} → statement M
 first-spec =
@@ -52,12 +38,7 @@ first-spec =
     enum-known-answer
     refused-requires
     enum-known-answer-2
-    slice-aggregate-write-line
-    slice-aggregate-write-line-2
-    slice-aggregate-write-line-3
-    slice-aggregate-write-line-4
-    slice-aggregate-write-line-5
-    write-line-requires
+    stands-requires
     same-length
     returns
     same-length-2

@@ -1,5 +1,6 @@
 -- `queue_script::answers::put` meets its contract: a refusal's line, or that of the result. Assumes nothing.
-use Rattle.queue_script.specs.Texts.{moving, putText}
+use Rattle.queue.specs.Answers.{told, refusal, toldPut}
+use Rattle.queue_script.specs.Texts.{answerText}
 use borrow.Author.Needs.{needs}
 use Rattle.queue_script.proofs.answers.put.Statement.{statement}
 use Rattle.queue_script.proofs.answers.put.Tie as tie
@@ -13,37 +14,22 @@ refused-requires c κs = search needs
 enum-known-answer-2 : tie.Need-enum-known-answer-2
 enum-known-answer-2 c = search needs
 
-slice-aggregate-write-line : tie.Need-slice-aggregate-write-line
-slice-aggregate-write-line c = search needs
-
-slice-aggregate-write-line-2 : tie.Need-slice-aggregate-write-line-2
-slice-aggregate-write-line-2 c = search needs
-
-slice-aggregate-write-line-3 : tie.Need-slice-aggregate-write-line-3
-slice-aggregate-write-line-3 c = search needs
-
-slice-aggregate-write-line-4 : tie.Need-slice-aggregate-write-line-4
-slice-aggregate-write-line-4 c = search needs
-
-slice-aggregate-write-line-5 : tie.Need-slice-aggregate-write-line-5
-slice-aggregate-write-line-5 c = search needs
-
-write-line-requires : tie.Need-write-line-requires
-write-line-requires c κs = search needs
+entered-requires : tie.Need-entered-requires
+entered-requires c κs = search needs
 
 same-length : tie.Need-same-length
 same-length c = search needs
 
 returns : tie.Need-returns
-unfolding putText
+unfolding toldPut told refusal answerText
 returns c = rw (c .before .before .before .before .before .answer .given .1) (c .before .before .refused .ensures)
 
 same-length-2 : tie.Need-same-length-2
 same-length-2 c = search needs
 
 returns-2 : tie.Need-returns-2
-unfolding putText moving
-returns-2 c = rw (c .before .before .before .before .before .before .before .before .before .before .answer2 .given .1) (c .before .before .write-line .ensures)
+unfolding toldPut told answerText
+returns-2 c = rw (c .before .before .before .before .before .answer2 .given .1) (c .before .before .entered .ensures)
 
 pub put-spec : {M : Type 1} → statement M
 put-spec =
@@ -52,12 +38,7 @@ put-spec =
     enum-known-answer
     refused-requires
     enum-known-answer-2
-    slice-aggregate-write-line
-    slice-aggregate-write-line-2
-    slice-aggregate-write-line-3
-    slice-aggregate-write-line-4
-    slice-aggregate-write-line-5
-    write-line-requires
+    entered-requires
     same-length
     returns
     same-length-2

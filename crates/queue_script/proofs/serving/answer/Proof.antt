@@ -3,6 +3,7 @@ use native.Mathlib.Omega.{arith}
 use mathlib.Core.Path.{sym, ap}
 use lib.Seq.{length-take-le}
 use Rattle.queue_script.specs.Sessions.{wordsOf}
+use Rattle.queue_script.proofs.Speaking.{obeyed-within}
 use borrow.Author.Needs.{needs}
 use Rattle.queue_script.proofs.serving.answer.Statement.{statement}
 use Rattle.queue_script.proofs.serving.answer.Tie as tie
@@ -49,7 +50,7 @@ same-length-4 c = search needs
 
 returns-2 : tie.Need-returns-2
 unfolding wordsOf
-returns-2 c = record { place = search needs; queue = slice-relend-prefix-obey (c .before .before .before .before .before .before .before) }
+returns-2 c = record { place = obeyed-within _ _ _ _ _ _ _ _ _ (c .before .before .before .before .before .obey .ensures); queue = slice-relend-prefix-obey (c .before .before .before .before .before .before .before) }
 
 returns-3 : tie.Need-returns-3
 returns-3 c = search needs

@@ -1,0 +1,2 @@
+-- Laws of the queue's script.
+pub mod Speaking
