@@ -1,2 +1,4 @@
 -- Laws of the queue's script.
+pub mod Ranges
 pub mod Speaking
+pub mod Opening

@@ -3,3 +3,4 @@ pub mod Commands
 pub mod Texts
 pub mod Sessions
 pub mod Spoken
+pub mod Runs

@@ -4,7 +4,8 @@ use script::reading::Read;
 use script::reading::read_line;
 ghost use mathlib.Core.Path.{_≡_};
 ghost use Rattle.script.specs.Grammar.{readLine};
-ghost use Rattle.queue_script.specs.Commands.{ofNone, ofTwo, ofThree, ofCount, commandOf};
+ghost use Rattle.queue_script.specs.Commands.{queueOf, ofNone, ofTwo, ofThree, ofCount, commandOf};
+ghost use Rattle.queue_script.specs.Runs.{openingOf};
 
 // Each command with its numbers, in the order of the line.
 pub enum Command {
@@ -15,6 +16,12 @@ pub enum Command {
     Take,
     Rekey(u64, u64, u64),
     Remove(u64, u64),
+}
+
+// What a first line sets up: a queue of so many cells and an arity, or nothing.
+pub enum Opening {
+    Wrong,
+    Queue(u64, u64),
 }
 
 // The words as `read_line` reads them: bytes as a base-256 number.
@@ -42,6 +49,19 @@ fn of_none(word: u64) -> Command
     Command::Bad
 }
 
+// A queue of 1 to 512 cells.
+fn queue_of(n: u64, d: u64) -> Command
+    ensures { λ r. ⌜ r ≡ queueOf n d ⌝ }
+{
+    if n == 0 {
+        return Command::Bad;
+    }
+    if n > 512 {
+        return Command::Bad;
+    }
+    Command::Queue(n, d)
+}
+
 fn of_two(word: u64, a: u64, b: u64) -> Command
     ensures { λ r. ⌜ r ≡ ofTwo word a b ⌝ }
 {
@@ -52,7 +72,7 @@ fn of_two(word: u64, a: u64, b: u64) -> Command
         return Command::Remove(a, b);
     }
     if word == QUEUE {
-        return Command::Queue(a, b);
+        return queue_of(a, b);
     }
     Command::Bad
 }
@@ -95,5 +115,20 @@ pub fn read_command(line: &[u8]) -> Command
             b,
             c,
         } => of_count(word, count, a, b, c),
+    }
+}
+
+// A command as the first of a run: only one that sets a queue up is right there.
+pub fn as_first(command: Command) -> Opening
+    ensures { λ r. ⌜ r ≡ openingOf command ⌝ }
+{
+    match command {
+        Command::Queue(n, d) => Opening::Queue(n, d),
+        Command::Put(_, _) => Opening::Wrong,
+        Command::First => Opening::Wrong,
+        Command::Take => Opening::Wrong,
+        Command::Rekey(_, _, _) => Opening::Wrong,
+        Command::Remove(_, _) => Opening::Wrong,
+        Command::Bad => Opening::Wrong,
     }
 }

@@ -16,6 +16,7 @@ use script::scan::next;
 ghost use Prim.Native.Nat.{_≤_};
 ghost use lib.ListN.{length};
 ghost use Rattle.queue_script.specs.Sessions.{wordsOf, Within};
+ghost use Rattle.queue_script.specs.Runs.{Reached};
 
 // Writes out what stands before `at` where the next answer may not fit behind it: no answer is longer than 256 bytes.
 fn flushed(out: &[u8], at: usize) -> usize
@@ -32,7 +33,9 @@ fn flushed(out: &[u8], at: usize) -> usize
 // Answers the whole lines of a chunk, and says where the rest begins and where the run stands.
 fn answer_lines(s: &[u8], out: &mut [u8], w: &mut [u64], session: Session) -> Turn
     requires { ⌜ wordsOf session ≤ length (now w) ⌝ }
-    ensures { λ r. ⌜ Within r (length (now (s .entry))) (length (now (w .entry))) ⌝ }
+    requires { ⌜ Reached session (now w) ⌝ }
+    ensures within { λ r. ⌜ Within r (length (now (s .entry))) (length (now (w .entry))) ⌝ }
+    ensures reached { λ r. ⌜ Reached (r .session) (now (w .exit)) ⌝ }
 {
     let mut run = session;
     let mut at = 0;
@@ -64,7 +67,9 @@ struct Step {
 fn advance(buf: &mut [u8], held: usize, out: &mut [u8], w: &mut [u64], session: Session) -> Step
     requires { ⌜ held ≤ length (now buf) ⌝ }
     requires { ⌜ wordsOf session ≤ length (now w) ⌝ }
-    ensures { λ r. ⌜ (r .held ≤ length (now (buf .entry))) × (wordsOf (r .session) ≤ length (now (w .entry))) ⌝ }
+    requires { ⌜ Reached session (now w) ⌝ }
+    ensures within { λ r. ⌜ (r .held ≤ length (now (buf .entry))) × (wordsOf (r .session) ≤ length (now (w .entry))) ⌝ }
+    ensures reached { λ r. ⌜ Reached (r .session) (now (w .exit)) ⌝ }
 {
     let room = &mut buf[held..];
     let got = io::count(libc::read(STDIN_FILENO, room), room);
@@ -87,7 +92,9 @@ fn advance(buf: &mut [u8], held: usize, out: &mut [u8], w: &mut [u64], session: 
 
 // A proved loop has to end, so it counts its turns down, from a number that no run uses up.
 fn read_all(buf: &mut [u8], out: &mut [u8], w: &mut [u64]) -> Step
-    ensures { λ r. ⌜ (r .held ≤ length (now (buf .entry))) × (wordsOf (r .session) ≤ length (now (w .entry))) ⌝ }
+    requires { ⌜ 4096 ≤ length (now w) ⌝ }
+    ensures within { λ r. ⌜ (r .held ≤ length (now (buf .entry))) × (wordsOf (r .session) ≤ length (now (w .entry))) ⌝ }
+    ensures reached { λ r. ⌜ Reached (r .session) (now (w .exit)) ⌝ }
 {
     let mut step = Step {
         held: 0,
@@ -108,7 +115,9 @@ fn read_all(buf: &mut [u8], out: &mut [u8], w: &mut [u64]) -> Step
 }
 
 // The last line may lack its line feed: what is held at the end of the input is a line.
-fn run(buf: &mut [u8], out: &mut [u8], w: &mut [u64]) {
+fn run(buf: &mut [u8], out: &mut [u8], w: &mut [u64])
+    requires { ⌜ 4096 ≤ length (now w) ⌝ }
+{
     let step = read_all(buf, out, w);
     let held = step.held;
     if held > 0 {

@@ -4,7 +4,8 @@ use crate::answers::bad_line;
 use crate::answers::ready;
 use crate::answers::refused;
 use crate::calls::obey;
-use crate::commands::Command;
+use crate::commands::Opening;
+use crate::commands::as_first;
 use crate::commands::read_command;
 use queue::head::Head;
 use queue::head::SetUp;
@@ -13,6 +14,10 @@ ghost use mathlib.Core.Path.{_≡_};
 ghost use Prim.Native.Nat.{_≤_};
 ghost use lib.ListN.{length};
 ghost use Rattle.queue_script.specs.Sessions.{wordsOf, goesOn, Within};
+ghost use Rattle.script.specs.Grammar.{readLine};
+ghost use Rattle.queue_script.specs.Commands.{commandOf};
+ghost use Rattle.queue_script.specs.Runs.{Place, openingOf, Begun, Stands, Answered};
+ghost use Rattle.queue_script.specs.declared.commands.Opening.the-variants as opening;
 
 // Where a run stands: before its first line, with a queue in so many of the words, or ended by its first line.
 pub enum Session {
@@ -27,29 +32,27 @@ pub struct Turn {
     pub session: Session,
 }
 
-fn over(end: usize) -> Turn
-    ensures { λ r. ⌜ Within r end 0 ⌝ }
-{
-    Turn {
-        end,
-        session: Session::Over,
-    }
-}
-
-// Sets a queue of n cells up: a bad line where n is 0, or more than the words hold (512 in this program).
+// Sets a queue of n cells up: a bad line where the words hold fewer.
 fn open(out: &mut [u8], at: usize, w: &mut [u64], n: u64, d: u64) -> Turn
-    ensures { λ r. ⌜ Within r (length (now (out .entry))) (length (now (w .entry))) ⌝ }
+    requires { ⌜ (1 ≤ n) × (n ≤ 512) ⌝ }
+    ensures within { λ r. ⌜ Within r (length (now (out .entry))) (length (now (w .entry))) ⌝ }
+    ensures told { λ r. ⌜
+        (4096 ≤ length (now (w .entry)) → Begun (opening.Queue n d) (now (out .entry)) at (r .session) (now (w .exit)) (now (out .exit)) (r .end))
+        ⌝ }
 {
     let cells = n as usize;
-    if cells == 0 {
-        return over(bad_line(out, at));
-    }
     if cells > w.len() / 8 {
-        return over(bad_line(out, at));
+        return Turn {
+            end: bad_line(out, at),
+            session: Session::Over,
+        };
     }
     let words = cells * 8;
     match set_up(&mut w[..words], d) {
-        SetUp::Refused(i) => over(refused(out, at, i)),
+        SetUp::Refused(i) => Turn {
+            end: refused(out, at, i),
+            session: Session::Over,
+        },
         SetUp::Ready(h) => Turn {
             end: ready(out, at, n, d),
             session: Session::Open(words, h),
@@ -59,11 +62,18 @@ fn open(out: &mut [u8], at: usize, w: &mut [u64], n: u64, d: u64) -> Turn
 
 // Answers the first line.
 fn begin(out: &mut [u8], at: usize, w: &mut [u64], line: &[u8]) -> Turn
-    ensures { λ r. ⌜ Within r (length (now (out .entry))) (length (now (w .entry))) ⌝ }
+    ensures within { λ r. ⌜ Within r (length (now (out .entry))) (length (now (w .entry))) ⌝ }
+    ensures told { λ r. ⌜
+        (4096 ≤ length (now (w .entry))
+        → Begun (openingOf (commandOf (readLine (now (line .entry))))) (now (out .entry)) at (r .session) (now (w .exit)) (now (out .exit)) (r .end))
+        ⌝ }
 {
-    match read_command(line) {
-        Command::Queue(n, d) => open(out, at, w, n, d),
-        _ => over(bad_line(out, at)),
+    match as_first(read_command(line)) {
+        Opening::Queue(n, d) => open(out, at, w, n, d),
+        Opening::Wrong => Turn {
+            end: bad_line(out, at),
+            session: Session::Over,
+        },
     }
 }
 
@@ -71,7 +81,11 @@ fn begin(out: &mut [u8], at: usize, w: &mut [u64], line: &[u8]) -> Turn
 pub fn answer(out: &mut [u8], at: usize, w: &mut [u64], session: Session, line: &[u8]) -> Turn
     requires { ⌜ at ≤ length (now out) ⌝ }
     requires { ⌜ wordsOf session ≤ length (now w) ⌝ }
-    ensures { λ r. ⌜ Within r (length (now (out .entry))) (length (now (w .entry))) ⌝ }
+    ensures within { λ r. ⌜ Within r (length (now (out .entry))) (length (now (w .entry))) ⌝ }
+    ensures told { λ r. ⌜
+        ((p : Place) → Stands session (now (w .entry)) p
+        → Answered p (now (line .entry)) (now (out .entry)) at (r .session) (now (w .exit)) (now (out .exit)) (r .end))
+        ⌝ }
 {
     match session {
         Session::Fresh => begin(out, at, w, line),
@@ -83,7 +97,10 @@ pub fn answer(out: &mut [u8], at: usize, w: &mut [u64], session: Session, line: 
                 session: Session::Open(n, head),
             }
         }
-        Session::Over => over(at),
+        Session::Over => Turn {
+            end: at,
+            session: Session::Over,
+        },
     }
 }
 

@@ -4,6 +4,8 @@ use native.Mathlib.Omega.{arith}
 use mathlib.Core.Path.{_≡_, refl, sym}
 use lib.ListN.{length}
 use lib.Seq.{length-take-le}
+use Rattle.queue_script.specs.Runs.{Reached}
+use Rattle.queue_script.proofs.Opening.{reached-on}
 use borrow.Author.Needs.{needs}
 use Rattle.queue_script.specs.Sessions.{wordsOf}
 use Rattle.queue_script.proofs.answer_lines.Statement.{statement}
@@ -11,7 +13,7 @@ use Rattle.queue_script.proofs.answer_lines.Tie as tie
 
 abbrev Inv-loop : tie.InvT-loop
 Inv-loop s out₀ w₀ run₀ at₀ end₀ o₀ out w run at end o =
-    (at ≤ length s) × (at ≤ end) × (o ≤ length out) × (length out ≡ length out₀) × (wordsOf run ≤ length w) × (length w ≡ length w₀)
+    (at ≤ length s) × (at ≤ end) × (o ≤ length out) × (length out ≡ length out₀) × (wordsOf run ≤ length w) × (length w ≡ length w₀) × Reached run w
 
 abbrev μ-loop : tie.MeasureT-loop
 μ-loop s out₀ w₀ run₀ at₀ end₀ o₀ out w run at end o = length s - at
@@ -20,7 +22,7 @@ next-requires : tie.Need-next-requires Inv-loop μ-loop
 next-requires c κs = search needs
 
 loop-holds : tie.Need-loop-holds Inv-loop μ-loop
-loop-holds c = (omega arith, omega arith, omega arith, refl, search needs, refl)
+loop-holds c = (omega arith, omega arith, omega arith, refl, search needs, refl, search needs)
 
 flushed-requires : tie.Need-flushed-requires Inv-loop μ-loop
 flushed-requires c κs = search needs
@@ -47,7 +49,15 @@ loop-less : tie.Need-loop-less Inv-loop μ-loop
 loop-less c = search needs
 
 loop-again : tie.Need-loop-again Inv-loop μ-loop
-loop-again c = search needs
+loop-again c = (
+  search needs,
+  search needs,
+  search needs,
+  search needs,
+  search needs,
+  search needs,
+  reached-on _ _ _ _ _ _ _ _ _ (c .before .before .before .before .before .before .before .before .before .before .before .before .loop .inv .6) (c .before .before .before .before .before .answer .ensures .1),
+)
 
 slice-reshare-prefix-write-all : tie.Need-slice-reshare-prefix-write-all Inv-loop μ-loop
 slice-reshare-prefix-write-all c = search needs

@@ -4,22 +4,24 @@ use mathlib.Core.Path.{_≡_}
 use lib.ListN.{length}
 use borrow.Author.Needs.{needs}
 use Rattle.queue_script.specs.Sessions.{wordsOf}
+use Rattle.queue_script.specs.Runs.{Reached}
+use Rattle.queue_script.proofs.Opening.{reached-first}
 use Rattle.queue_script.proofs.read_all.Statement.{statement}
 use Rattle.queue_script.proofs.read_all.Tie as tie
 
 abbrev Inv-loop : tie.InvT-loop
 Inv-loop buf₀ out₀ w₀ step₀ turns₀ buf out w step turns =
-    (step .held ≤ length buf) × (wordsOf (step .session) ≤ length w) × (length buf ≡ length buf₀) × (length out ≡ length out₀) × (length w ≡ length w₀)
+    (step .held ≤ length buf) × (wordsOf (step .session) ≤ length w) × (length buf ≡ length buf₀) × (length out ≡ length out₀) × (length w ≡ length w₀) × Reached (step .session) w
 
 abbrev μ-loop : tie.MeasureT-loop
 μ-loop buf₀ out₀ w₀ step₀ turns₀ buf out w step turns = turns
 
 loop-holds : tie.Need-loop-holds Inv-loop μ-loop
 unfolding wordsOf
-loop-holds c = search needs
+loop-holds c = (search needs, search needs, search needs, search needs, search needs, reached-first _ (search needs))
 
 advance-requires : tie.Need-advance-requires Inv-loop μ-loop
-advance-requires c κs = search needs
+advance-requires c κs = let inv = c .before .before .before .before .loop .inv in (inv .0, (inv .1, inv .5))
 
 same-length : tie.Need-same-length Inv-loop μ-loop
 same-length c = search needs
@@ -40,7 +42,7 @@ loop-less : tie.Need-loop-less Inv-loop μ-loop
 loop-less c = search needs
 
 loop-again : tie.Need-loop-again Inv-loop μ-loop
-loop-again c = search needs
+loop-again c = (search needs, search needs, search needs, search needs, search needs, c .before .before .before .before .before .before .before .before .advance .ensures .1)
 
 same-length-4 : tie.Need-same-length-4 Inv-loop μ-loop
 same-length-4 c = search needs

@@ -1,9 +1,10 @@
--- `queue_script::serving::answer` meets its contract: the queue keeps its words, and only the first line opens one. Assumes nothing.
+-- `queue_script::serving::answer` meets its contract: the queue keeps its words, and each line is answered as the run on the model answers it. Assumes nothing.
 use native.Mathlib.Omega.{arith}
-use mathlib.Core.Path.{sym, ap}
+use mathlib.Core.Path.{sym, ap, _∙_}
 use lib.Seq.{length-take-le}
 use Rattle.queue_script.specs.Sessions.{wordsOf}
 use Rattle.queue_script.proofs.Speaking.{obeyed-within}
+use Rattle.queue_script.proofs.Opening.{answered-first, answered-next, answered-over}
 use borrow.Author.Needs.{needs}
 use Rattle.queue_script.proofs.serving.answer.Statement.{statement}
 use Rattle.queue_script.proofs.serving.answer.Tie as tie
@@ -30,9 +31,6 @@ obey-requires c κs = search needs
 enum-told-2 : tie.Need-enum-told-2
 enum-told-2 c = search needs
 
-over-requires : tie.Need-over-requires
-over-requires c κs = search needs
-
 same-length : tie.Need-same-length
 same-length c = search needs
 
@@ -40,7 +38,7 @@ same-length-2 : tie.Need-same-length-2
 same-length-2 c = search needs
 
 returns : tie.Need-returns
-returns c = search needs
+returns c = (search needs, λ p s. answered-first _ _ _ _ _ p _ _ _ _ (c .before .before .before .before .before .before .before .enum-told .given .1) (λ long. c .before .before .before .before .begin .ensures .1 long) s)
 
 same-length-3 : tie.Need-same-length-3
 same-length-3 c = search needs
@@ -50,10 +48,18 @@ same-length-4 c = search needs
 
 returns-2 : tie.Need-returns-2
 unfolding wordsOf
-returns-2 c = record { place = obeyed-within _ _ _ _ _ _ _ _ _ (c .before .before .before .before .before .obey .ensures); queue = slice-relend-prefix-obey (c .before .before .before .before .before .before .before) }
+returns-2 c =
+    let obeyed = c .before .before .before .before .before in
+    let part = c .before .before .before .before .before .before in (
+      record { place = obeyed-within _ _ _ _ _ _ _ _ _ (obeyed .obey .ensures); queue = slice-relend-prefix-obey (part .before) },
+      λ p s.
+          answered-next _ _ _ _ _ p _ _ _ _ _ _ (c .before .before .before .before .before .before .before .before .before .session .given .1) (obeyed .obey .kept .1 .1 .0 ∙ sym (slice-aggregate-obey part))
+          (obeyed .obey .ensures) s,
+    )
 
 returns-3 : tie.Need-returns-3
-returns-3 c = search needs
+unfolding wordsOf
+returns-3 c = (search needs, λ p s. answered-over _ _ _ _ _ p (c .enum-told2 .given .1) (search needs) s)
 
 pub answer-spec : {M : Type 1} → statement M
 answer-spec =
@@ -66,7 +72,6 @@ answer-spec =
     slice-aggregate-obey
     obey-requires
     enum-told-2
-    over-requires
     same-length
     same-length-2
     returns
