@@ -16,7 +16,7 @@ use Rattle.cells.proofs.Lists.{all-map, all-drop, all-both, sumOf-append, sumOf
 use Rattle.places.specs.Ticks.{moves, lastTick}
 use Rattle.places.proofs.Digits.{tick-below}
 use Rattle.places.proofs.Counts.{left, left-bound, moves-all, moves-part, moves-bound}
-use Rattle.meaning.specs.Entries.{Entry, insert, named, without, before, names, nobody}
+use Rattle.meaning.specs.Entries.{Entry, named, without, names, nobody}
 use Rattle.meaning.specs.Plain.{Plain, files, refiles, frees, hands, apply, filed, refiled}
 use Rattle.meaning.specs.Refusals.{Free}
 use Rattle.meaning.specs.Calls.{
@@ -44,6 +44,7 @@ use Rattle.meaning.specs.Calls.{
   result,
 }
 use Rattle.meaning.proofs.Given.{given-either}
+use Rattle.dial.proofs.AnyOrder.{sumOf-insert}
 use Rattle.meaning.specs.Kept.{Kept, Within, Timed}
 use Rattle.meaning.specs.Handed.{Handed}
 use Rattle.meaning.proofs.Kept.{unused}
@@ -57,16 +58,7 @@ use Rattle.promises.specs.Bounds.{movesOf, movesOver}
 leftOf : ℕ → ℕ → ℕ → ℕ → Entry → ℕ
 leftOf b n o a e = cond (eqb (e .order) o) (left b n a (e .key)) 0
 
--- A sum over a list with an entry put in, and without one.
-sumOf-insert : (f : Entry → ℕ) (x : Entry) (es : List Entry) → sumOf f (insert x es) ≡ f x + sumOf f es
-unfolding sumOf insert
-sumOf-insert f x [] = refl
-sumOf-insert f x (y ∷ ys) = go (before x y) (sumOf-insert f x ys)
-  where
-    go : (t : Bool) → sumOf f (insert x ys) ≡ f x + sumOf f ys → sumOf f (cond t (x ∷ y ∷ ys) (y ∷ insert x ys)) ≡ f x + (f y + sumOf f ys)
-    go true r = refl
-    go false r = omega arith
-
+-- A sum over a list without an entry.
 sumOf-without : (f : Entry → ℕ) (c k : ℕ) (es : List Entry) → sumOf f (without c k es) ≤ sumOf f es
 unfolding sumOf without
 sumOf-without f c k [] = omega arith
