@@ -19,13 +19,10 @@ use Rattle.meaning.specs.Calls.{dueBy, smallest, nextWake}
 use Rattle.meaning.proofs.Orders.{before-atMost}
 use Rattle.meaning.proofs.Due.{due-more, due-none}
 use Rattle.meaning.proofs.Smallest.{smallest-is}
+use Rattle.dial.proofs.Wakings.{wakes}
 use Rattle.meaning.specs.Kept.{Within}
 
--- When the list in which an entry stands is looked at next.
-unfoldable pub wakeAt : ℕ → ℕ → ℕ → Entry → ℕ
-wakeAt b n t e = wakeOf b t (place b n t (e .key))
-
-all-wakes : (b n t w : ℕ) (es : List Entry) → All (λ (e : Entry). w ≤ wakeAt b n t e) es → All (λ (y : ℕ). w ≤ y) (map (wakeAt b n t) es)
+all-wakes : (b n t w : ℕ) (es : List Entry) → All (λ (e : Entry). w ≤ wakes b n t e) es → All (λ (y : ℕ). w ≤ y) (map (wakes b n t) es)
 all-wakes b n t w [] a = tt
 all-wakes b n t w (e ∷ es) a = (a .0, all-wakes b n t w es (a .1))
 
@@ -36,8 +33,8 @@ wake-none b n s q = rw q
 -- "else the smallest wake tick": the earliest entry's.
 pub wake-earliest : (b n : ℕ) (s : Plain) (e : Entry) (es : List Entry) → 0 < b → s .entries ≡ e ∷ es → Ordered (e ∷ es)
     → All (Within b n (s .clock)) (e ∷ es)
-    → nextWake b n s ≡ some (wakeAt b n (s .clock) e)
-unfolding nextWake wakeAt
+    → nextWake b n s ≡ some (wakes b n (s .clock) e)
+unfolding nextWake
 wake-earliest b n s e es positive q o w =
     same? (s .clock) (e .key)
     (λ d.
@@ -47,13 +44,13 @@ wake-earliest b n s e es positive q o w =
     (λ d.
     rw q
     (rw (eq-eqb (dueBy (s .clock) (e ∷ es)) 0 (due-none (s .clock) e es (omega (arith, w .0 .late))))
-    (smallest-is (wakeAt b n (s .clock) e) (map (wakeAt b n (s .clock)) (e ∷ es))
-    (all-wakes b n (s .clock) (wakeAt b n (s .clock) e) (e ∷ es)
+    (smallest-is (wakes b n (s .clock) e) (map (wakes b n (s .clock)) (e ∷ es))
+    (all-wakes b n (s .clock) (wakes b n (s .clock) e) (e ∷ es)
     (omega arith, later-wakes es (all-both (λ (x : Entry). before e x ≡ true) (Within b n (s .clock)) es (o .0) (w .1))))
     (λ others. others .0 refl))))
   where
     later-wakes : (xs : List Entry) → All (λ (x : Entry). (before e x ≡ true) × Within b n (s .clock) x) xs
-        → All (λ (x : Entry). wakeAt b n (s .clock) e ≤ wakeAt b n (s .clock) x) xs
+        → All (λ (x : Entry). wakes b n (s .clock) e ≤ wakes b n (s .clock) x) xs
     later-wakes xs a =
         all-map
         (λ x h.
