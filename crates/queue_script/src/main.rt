@@ -5,9 +5,10 @@ mod calls;
 mod commands;
 mod serving;
 
+use crate::calls::obey;
 use crate::serving::Session;
 use crate::serving::Turn;
-use crate::serving::answer;
+use crate::serving::begin;
 use crate::serving::goes_on;
 use libc::STDIN_FILENO;
 use libc::STDOUT_FILENO;
@@ -16,7 +17,7 @@ use script::scan::next;
 ghost use Prim.Native.Nat.{_≤_};
 ghost use lib.ListN.{length};
 ghost use Rattle.queue_script.specs.Sessions.{wordsOf, Within};
-ghost use Rattle.queue_script.specs.Runs.{Reached};
+ghost use Rattle.queue_script.specs.Runs.{Place, Stands, Reached, Answered};
 
 // Writes out what stands before `at` where the next answer may not fit behind it: no answer is longer than 256 bytes.
 fn flushed(out: &[u8], at: usize) -> usize
@@ -28,6 +29,33 @@ fn flushed(out: &[u8], at: usize) -> usize
         return 0;
     }
     at
+}
+
+// Answers a line; once the run is over nothing is answered.
+fn answer(out: &mut [u8], at: usize, w: &mut [u64], session: Session, line: &[u8]) -> Turn
+    requires { ⌜ at ≤ length (now out) ⌝ }
+    requires { ⌜ wordsOf session ≤ length (now w) ⌝ }
+    ensures within { λ r. ⌜ Within r (length (now (out .entry))) (length (now (w .entry))) ⌝ }
+    ensures told { λ r. ⌜
+        ((p : Place) → Stands session (now (w .entry)) p
+        → Answered p (now (line .entry)) (now (out .entry)) at (r .session) (now (w .exit)) (now (out .exit)) (r .end))
+        ⌝ }
+{
+    match session {
+        Session::Fresh => begin(out, at, w, line),
+        Session::Open(n, h) => {
+            let said = obey(out, at, &mut w[..n], h, line);
+            let head = said.head;
+            Turn {
+                end: said.end,
+                session: Session::Open(n, head),
+            }
+        }
+        Session::Over => Turn {
+            end: at,
+            session: Session::Over,
+        },
+    }
 }
 
 // Answers the whole lines of a chunk, and says where the rest begins and where the run stands.

@@ -3,7 +3,6 @@
 use crate::answers::bad_line;
 use crate::answers::ready;
 use crate::answers::refused;
-use crate::calls::obey;
 use crate::commands::Opening;
 use crate::commands::as_first;
 use crate::commands::read_command;
@@ -13,10 +12,10 @@ use queue::setup::set_up;
 ghost use mathlib.Core.Path.{_≡_};
 ghost use Prim.Native.Nat.{_≤_};
 ghost use lib.ListN.{length};
-ghost use Rattle.queue_script.specs.Sessions.{wordsOf, goesOn, Within};
+ghost use Rattle.queue_script.specs.Sessions.{goesOn, Within};
 ghost use Rattle.script.specs.Grammar.{readLine};
 ghost use Rattle.queue_script.specs.Commands.{commandOf};
-ghost use Rattle.queue_script.specs.Runs.{Place, openingOf, Begun, Stands, Answered};
+ghost use Rattle.queue_script.specs.Runs.{openingOf, Begun};
 ghost use Rattle.queue_script.specs.declared.commands.Opening.the-variants as opening;
 
 // Where a run stands: before its first line, with a queue in so many of the words, or ended by its first line.
@@ -61,7 +60,7 @@ fn open(out: &mut [u8], at: usize, w: &mut [u64], n: u64, d: u64) -> Turn
 }
 
 // Answers the first line.
-fn begin(out: &mut [u8], at: usize, w: &mut [u64], line: &[u8]) -> Turn
+pub fn begin(out: &mut [u8], at: usize, w: &mut [u64], line: &[u8]) -> Turn
     ensures within { λ r. ⌜ Within r (length (now (out .entry))) (length (now (w .entry))) ⌝ }
     ensures told { λ r. ⌜
         (4096 ≤ length (now (w .entry))
@@ -72,33 +71,6 @@ fn begin(out: &mut [u8], at: usize, w: &mut [u64], line: &[u8]) -> Turn
         Opening::Queue(n, d) => open(out, at, w, n, d),
         Opening::Wrong => Turn {
             end: bad_line(out, at),
-            session: Session::Over,
-        },
-    }
-}
-
-// Answers a line; once the run is over nothing is answered.
-pub fn answer(out: &mut [u8], at: usize, w: &mut [u64], session: Session, line: &[u8]) -> Turn
-    requires { ⌜ at ≤ length (now out) ⌝ }
-    requires { ⌜ wordsOf session ≤ length (now w) ⌝ }
-    ensures within { λ r. ⌜ Within r (length (now (out .entry))) (length (now (w .entry))) ⌝ }
-    ensures told { λ r. ⌜
-        ((p : Place) → Stands session (now (w .entry)) p
-        → Answered p (now (line .entry)) (now (out .entry)) at (r .session) (now (w .exit)) (now (out .exit)) (r .end))
-        ⌝ }
-{
-    match session {
-        Session::Fresh => begin(out, at, w, line),
-        Session::Open(n, h) => {
-            let said = obey(out, at, &mut w[..n], h, line);
-            let head = said.head;
-            Turn {
-                end: said.end,
-                session: Session::Open(n, head),
-            }
-        }
-        Session::Over => Turn {
-            end: at,
             session: Session::Over,
         },
     }

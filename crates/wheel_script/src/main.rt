@@ -6,9 +6,10 @@ mod commands;
 mod records;
 mod serving;
 
+use crate::calls::obey;
 use crate::serving::Session;
 use crate::serving::Turn;
-use crate::serving::answer;
+use crate::serving::begin;
 use crate::serving::goes_on;
 use libc::STDIN_FILENO;
 use libc::STDOUT_FILENO;
@@ -17,7 +18,7 @@ use script::scan::next;
 ghost use Prim.Native.Nat.{_≤_};
 ghost use lib.ListN.{length};
 ghost use Rattle.wheel_script.specs.Sessions.{wordsOf, Within};
-ghost use Rattle.wheel_script.specs.Runs.{Before, Blank, Reached};
+ghost use Rattle.wheel_script.specs.Runs.{Place, Before, Blank, Stands, Reached, Answered};
 
 // Writes out what stands before `at` where the next answer may not fit behind it: the longest answers an advance, by 64 lines of at most 90 bytes and one of at most 60.
 fn flushed(out: &[u8], at: usize) -> usize
@@ -29,6 +30,42 @@ fn flushed(out: &[u8], at: usize) -> usize
         return 0;
     }
     at
+}
+
+// Answers a line; once the run is over nothing is answered.
+fn answer(
+    out: &mut [u8],
+    at: usize,
+    w: &mut [u64],
+    first: &mut [u16],
+    last: &mut [u16],
+    marks: &mut [u64],
+    session: Session,
+    line: &[u8],
+) -> Turn
+    requires { ⌜ at ≤ length (now out) ⌝ }
+    requires { ⌜ wordsOf session ≤ length (now w) ⌝ }
+    ensures within { λ r. ⌜ Within r (length (now (out .entry))) (length (now (w .entry))) ⌝ }
+    ensures told { λ r. ⌜
+        ((p : Place) → Stands session (now (w .entry)) (now (first .entry)) (now (last .entry)) (now (marks .entry)) p
+        → Answered p (now (line .entry)) (now (out .entry)) at (r .session) (now (w .exit)) (now (first .exit)) (now (last .exit)) (now (marks .exit)) (now (out .exit)) (r .end))
+        ⌝ }
+{
+    match session {
+        Session::Fresh => begin(out, at, w, line),
+        Session::Open(n, d) => {
+            let said = obey(out, at, &mut w[..n], first, last, marks, d, line);
+            let dial = said.dial;
+            Turn {
+                end: said.end,
+                session: Session::Open(n, dial),
+            }
+        }
+        Session::Over => Turn {
+            end: at,
+            session: Session::Over,
+        },
+    }
 }
 
 // Answers the whole lines of a chunk, and says where the rest begins and where the run stands.

@@ -3,7 +3,6 @@
 use crate::answers::bad_line;
 use crate::answers::ready;
 use crate::answers::refused;
-use crate::calls::obey;
 use crate::commands::Opening;
 use crate::commands::as_first;
 use crate::commands::read_command;
@@ -14,10 +13,10 @@ ghost use mathlib.Core.Path.{_≡_};
 ghost use Prim.Native.Nat.{ℕ, _≤_};
 ghost use mathlib.Core.List.{List};
 ghost use lib.ListN.{length};
-ghost use Rattle.wheel_script.specs.Sessions.{wordsOf, goesOn, Within};
+ghost use Rattle.wheel_script.specs.Sessions.{goesOn, Within};
 ghost use Rattle.script.specs.Grammar.{readLine};
 ghost use Rattle.wheel_script.specs.Commands.{commandOf};
-ghost use Rattle.wheel_script.specs.Runs.{Place, Before, openingOf, Blank, Begun, Stands, Answered};
+ghost use Rattle.wheel_script.specs.Runs.{Before, openingOf, Blank, Begun};
 ghost use Rattle.wheel_script.specs.declared.commands.Opening.the-variants as opening;
 
 // Where a run stands: before its first line, with a wheel in so many of the words, or ended by its first line.
@@ -68,7 +67,7 @@ fn open(out: &mut [u8], at: usize, w: &mut [u64], n: u64, t: u64) -> Turn
 }
 
 // Answers the first line.
-fn begin(out: &mut [u8], at: usize, w: &mut [u64], line: &[u8]) -> Turn
+pub fn begin(out: &mut [u8], at: usize, w: &mut [u64], line: &[u8]) -> Turn
     ensures within { λ r. ⌜ Within r (length (now (out .entry))) (length (now (w .entry))) ⌝ }
     ensures told { λ r. ⌜
         ((first last marks : List ℕ) → Blank (now (w .entry)) first last marks Before
@@ -79,42 +78,6 @@ fn begin(out: &mut [u8], at: usize, w: &mut [u64], line: &[u8]) -> Turn
         Opening::Wheel(n, t) => open(out, at, w, n, t),
         Opening::Wrong => Turn {
             end: bad_line(out, at),
-            session: Session::Over,
-        },
-    }
-}
-
-// Answers a line; once the run is over nothing is answered.
-pub fn answer(
-    out: &mut [u8],
-    at: usize,
-    w: &mut [u64],
-    first: &mut [u16],
-    last: &mut [u16],
-    marks: &mut [u64],
-    session: Session,
-    line: &[u8],
-) -> Turn
-    requires { ⌜ at ≤ length (now out) ⌝ }
-    requires { ⌜ wordsOf session ≤ length (now w) ⌝ }
-    ensures within { λ r. ⌜ Within r (length (now (out .entry))) (length (now (w .entry))) ⌝ }
-    ensures told { λ r. ⌜
-        ((p : Place) → Stands session (now (w .entry)) (now (first .entry)) (now (last .entry)) (now (marks .entry)) p
-        → Answered p (now (line .entry)) (now (out .entry)) at (r .session) (now (w .exit)) (now (first .exit)) (now (last .exit)) (now (marks .exit)) (now (out .exit)) (r .end))
-        ⌝ }
-{
-    match session {
-        Session::Fresh => begin(out, at, w, line),
-        Session::Open(n, d) => {
-            let said = obey(out, at, &mut w[..n], first, last, marks, d, line);
-            let dial = said.dial;
-            Turn {
-                end: said.end,
-                session: Session::Open(n, dial),
-            }
-        }
-        Session::Over => Turn {
-            end: at,
             session: Session::Over,
         },
     }

@@ -1,4 +1,4 @@
--- `wheel_script::serving::answer` meets its contract: the wheel keeps its words, and each line is answered as the run on the plain list answers it. Assumes nothing.
+-- `wheel_script::answer` meets its contract: the wheel keeps its words, and each line is answered as the run on the plain list answers it. Assumes nothing.
 use native.Mathlib.Omega.{arith}
 use mathlib.Core.Path.{sym, ap, _∙_}
 use lib.Seq.{length-take-le}
@@ -6,8 +6,8 @@ use Rattle.wheel_script.specs.Sessions.{wordsOf}
 use Rattle.wheel_script.proofs.Speaking.{obeyed-within}
 use Rattle.wheel_script.proofs.Opening.{answered-first, answered-next, answered-over}
 use borrow.Author.Needs.{needs}
-use Rattle.wheel_script.proofs.serving.answer.Statement.{statement}
-use Rattle.wheel_script.proofs.serving.answer.Tie as tie
+use Rattle.wheel_script.proofs.answer.Statement.{statement}
+use Rattle.wheel_script.proofs.answer.Tie as tie
 
 enum-told : tie.Need-enum-told
 enum-told c = search needs
