@@ -15,6 +15,7 @@ use Rattle.audits.specs.Sorted.{sortBy, cellLeq, neighboursDiffer}
 use Rattle.cells.specs.Rules.{inUse, Differ, Sound}
 use Rattle.audits.specs.AuditTests.{allBelow, cellTest, differTest, usedBelow, sizeTest, sharedTest}
 use Rattle.cells.specs.Stack.{stackTest}
+use Rattle.audits.specs.Entering.{Swept}
 use Rattle.cells.specs.declared.store.Store.{Store}
 use Rattle.cells.proofs.Cases.{test, clash, and-true}
 use Rattle.audits.proofs.Sorting.{times-sort}
@@ -169,6 +170,20 @@ module _ (w : List ℕ) (s : Store) (used free : ℕ) where
         },
     λ h. f ∙ sound-differ h,
   )
+
+-- By a sweep over the cells, which finds 0, 1 or 2.
+module _ (w : List ℕ) (s : Store) (used free k : ℕ) (found : Swept w (s .cells) (allBelow (s .cells) (cellTest w (s .counter) used free)) k) where
+  pub swept-fails : k ≡ 0 → (false ≡ true) ↔ Sound w s used free
+  swept-fails e = fails-cells w s used free _ refl (found .breaks e)
+
+  module _ (a c : Bool) (size : a ≡ sizeTest (length w) s) (sized : a ≡ true) (stack : c ≡ stackTest w (s .cells) (s .free)) (stacked : c ≡ true) where
+    pub swept-passes : k ≡ 2 → (true ≡ true) ↔ Sound w s used free
+    swept-passes e =
+        passes w s used free a _ c true size sized refl (found .keeps (omega arith)) stack stacked
+        (sym (differ-rules w (s .cells) .1 (found .differ (omega arith))))
+
+    pub swept-sorts : (k ≡ 0 → ⊥) → (r : Bool) → r ≡ differTest w (usedBelow w (s .cells)) → (r ≡ true) ↔ Sound w s used free
+    swept-sorts e r h = passes w s used free a _ c r size sized refl (found .keeps (omega arith)) stack stacked h
 
 -- A test that cannot fail where something holds passes there.
 unrefuted : {Q : Type 0} (t : Bool) → (t ≡ false → (false ≡ true) ↔ Q) → Q → t ≡ true

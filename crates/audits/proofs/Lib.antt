@@ -11,3 +11,4 @@ pub mod Masks
 pub mod Distinct
 pub mod Audits
 pub mod Stability
+pub mod Tabled

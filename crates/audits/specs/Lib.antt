@@ -1,3 +1,4 @@
 -- What the shared audit tests, and sorting.
 pub mod Sorted
 pub mod AuditTests
+pub mod Entering

@@ -2,6 +2,7 @@
 
 use crate::sort::all_differ;
 use crate::sort::sort;
+use crate::table::enter_both;
 use cells::stack::stack_sound;
 use cells::store::Store;
 use cells::words::get;
@@ -15,6 +16,7 @@ ghost use lib.ListN.{length, drop, set};
 ghost use Rattle.cells.specs.Words.{word};
 ghost use Rattle.cells.specs.Rules.{inUse, Sound};
 ghost use Rattle.audits.specs.AuditTests.{allBelow, blankTest, numberedTest, cellTest, usedBelow, sizeTest, differTest};
+ghost use Rattle.audits.specs.Entering.{Swept};
 ghost use Rattle.audits.specs.Sorted.{sortBy, cellLeq, neighboursDiffer};
 
 // Whether field f is not in the mask, whose digit f is the lowest of `rest`, or zero in cell c.
@@ -67,18 +69,49 @@ fn cell_sound(w: &[u64], counter: u64, used: u64, free: u64, c: u64) -> bool
     false
 }
 
-// Whether each of the first n cells does.
-fn cells_sound(w: &[u64], n: u64, counter: u64, used: u64, free: u64) -> bool
-    ensures { λ r. ⌜ r ≡ allBelow n (cellTest (now (w .entry)) counter used free) ⌝ }
+// Whether each of the first n cells does: 0 if one does not, else 1, or 2 where tickets and order numbers are known to differ besides. Only two tables that
+// took every cell, with four steps for each, know it.
+fn sweep(
+    w: &[u64],
+    n: u64,
+    counter: u64,
+    used: u64,
+    free: u64,
+    size: u64,
+    t: &mut [u16],
+    u: &mut [u16],
+) -> u64
+    requires { ⌜ n ≤ 4096 ⌝ }
+    ensures { λ r. ⌜ Swept (now (w .entry)) n (allBelow n (cellTest (now (w .entry)) counter used free)) r ⌝ }
 {
     let mut c: u64 = 0;
+    let mut left = n * 4 + 1;
     while c < n {
         if !cell_sound(w, counter, used, free, c) {
-            return false;
+            return 0;
         }
+        left = enter_both(w, c, size, t, u, left);
         c += 1;
     }
-    true
+    if left == 0 {
+        return 1;
+    }
+    2
+}
+
+// The same, with tables of its own: small ones for few cells.
+fn swept(w: &[u64], n: u64, counter: u64, used: u64, free: u64) -> u64
+    requires { ⌜ n ≤ 4096 ⌝ }
+    ensures { λ r. ⌜ Swept (now (w .entry)) n (allBelow n (cellTest (now (w .entry)) counter used free)) r ⌝ }
+{
+    if n <= 512 {
+        let mut t = [4096u16; 1088];
+        let mut u = [4096u16; 1088];
+        return sweep(w, n, counter, used, free, 1024, &mut t, &mut u);
+    }
+    let mut t = [4096u16; 8256];
+    let mut u = [4096u16; 8256];
+    sweep(w, n, counter, used, free, 8192, &mut t, &mut u)
 }
 
 // Notes cell c at m if it is in use, and says where the next goes.
@@ -155,7 +188,7 @@ fn used_distinct(w: &[u64], n: u64, a: &mut [u16], spare: &mut [u16]) -> bool
 }
 
 // The same, with room of its own.
-fn numbers_differ(w: &[u64], n: u64) -> bool
+fn sorted_differ(w: &[u64], n: u64) -> bool
     requires { ⌜ n ≤ 4096 ⌝ }
     ensures { λ r. ⌜ r ≡ differTest (now (w .entry)) (usedBelow (now (w .entry)) n) ⌝ }
 {
@@ -172,11 +205,15 @@ pub fn audit(w: &[u64], s: Store, used: u64, free: u64) -> bool
     if !size_sound(w, s) {
         return false;
     }
-    if !cells_sound(w, s.cells, s.counter, used, free) {
+    let k = swept(w, s.cells, s.counter, used, free);
+    if k == 0 {
         return false;
     }
     if !stack_sound(w, s.cells, s.free) {
         return false;
     }
-    numbers_differ(w, s.cells)
+    if k == 2 {
+        return true;
+    }
+    sorted_differ(w, s.cells)
 }

@@ -11,3 +11,4 @@ pub mod AuditSteps
 pub mod Counting
 pub mod Listed
 pub mod Audits
+pub mod Climbs

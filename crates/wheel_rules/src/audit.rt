@@ -35,11 +35,22 @@ ghost use Rattle.wheel_rules.specs.AuditTests.{
   ListNoted,
   AllNoted,
 };
+ghost use Rattle.wheel_rules.specs.Climbing.{Climbs, Climbed};
 
 // How many cells were noted, and whether what was walked is sound.
 pub struct Noted {
     pub count: u64,
     pub sound: bool,
+}
+
+// What a look along the lists keeps: the highest deadline of the lists before, that of all so far, the last order number, the last of the due list, and
+// whether the look goes on.
+pub struct Climb {
+    pub high: u64,
+    pub top: u64,
+    pub last: u64,
+    pub due: u64,
+    pub good: bool,
 }
 
 // Whether the clock is a tick.
@@ -245,11 +256,80 @@ fn all_rise(w: &[u64], a: &[u16]) -> bool
     true
 }
 
-// Whether the cells a, those of equal deadline, stand by rising order number: sorted by deadline they are neighbours.
-fn order_sound(w: &[u64], a: &mut [u16], spare: &mut [u16]) -> bool
+// The larger of two numbers.
+fn larger(x: u64, y: u64) -> u64
+    ensures { λ r. ⌜ (x ≤ r) × (y ≤ r) ⌝ }
+{
+    if x < y {
+        return y;
+    }
+    x
+}
+
+// One cell further along the lists.
+fn look_on(w: &[u64], clock: u64, s: Climb, a: u16) -> Climb
+    ensures { λ r. ⌜ Climbs (now (w .entry)) clock s a r ⌝ }
+{
+    let c = a as u64;
+    let deadline = get(w, c, 2);
+    let order = get(w, c, 1);
+    if deadline == clock {
+        return Climb {
+            high: s.high,
+            top: s.top,
+            last: s.last,
+            due: order,
+            good: s.due < order,
+        };
+    }
+    if s.last < order {
+        return Climb {
+            high: s.high,
+            top: larger(s.top, deadline),
+            last: order,
+            due: s.due,
+            good: s.high < deadline,
+        };
+    }
+    Climb {
+        high: s.top,
+        top: deadline,
+        last: order,
+        due: s.due,
+        good: s.top < deadline,
+    }
+}
+
+// Whether order numbers rise along each list: then those of equal deadlines do. A no says nothing.
+fn lists_climb(w: &[u64], clock: u64, a: &[u16]) -> bool
+    ensures { λ r. ⌜ Climbed (now (w .entry)) (now (a .entry)) r ⌝ }
+{
+    let mut s = Climb {
+        high: 0,
+        top: 0,
+        last: 0,
+        due: 0,
+        good: true,
+    };
+    let mut i = 0;
+    while i < a.len() {
+        s = look_on(w, clock, s, a[i]);
+        if !s.good {
+            return false;
+        }
+        i += 1;
+    }
+    true
+}
+
+// Whether the cells a, those of equal deadline, stand by rising order number: sorted by deadline they are neighbours. A wheel that was used needs no sort.
+fn order_sound(w: &[u64], clock: u64, a: &mut [u16], spare: &mut [u16]) -> bool
     requires { ⌜ length (now a) ≡ length (now spare) ⌝ }
     ensures { λ r. ⌜ r ≡ orderTest (now (w .entry)) (now (a .entry)) ⌝ }
 {
+    if lists_climb(w, clock, a) {
+        return true;
+    }
     sort(w, 2, 2, a, spare);
     all_rise(w, a)
 }
@@ -275,7 +355,7 @@ fn lists_sound(
         return false;
     }
     let m = got.count as usize;
-    order_sound(w, &mut a[..m], &mut spare[..m])
+    order_sound(w, d.clock, &mut a[..m], &mut spare[..m])
 }
 
 // The same, with room of its own.
