@@ -14,8 +14,9 @@ use Rattle.cells.specs.Lists.{times}
 use Rattle.audits.specs.Sorted.{sortBy, cellLeq, neighboursDiffer}
 use Rattle.cells.specs.Rules.{inUse, Differ, Sound}
 use Rattle.audits.specs.AuditTests.{allBelow, cellTest, differTest, usedBelow, sizeTest, sharedTest}
-use Rattle.cells.specs.Stack.{stackTest}
+use Rattle.cells.specs.Stack.{frees, stackTest}
 use Rattle.audits.specs.Entering.{Swept}
+use Rattle.audits.specs.Verdicts.{Judged}
 use Rattle.cells.specs.declared.store.Store.{Store}
 use Rattle.cells.proofs.Cases.{test, clash, and-true}
 use Rattle.audits.proofs.Sorting.{times-sort}
@@ -222,3 +223,12 @@ shared-decides w s used free = (to, from)
         let b : cells ≡ true = unrefuted cells (λ e. fails-cells w s used free cells refl e) h in
         let c : stack ≡ true = unrefuted stack (λ e. fails-stack w s used free stack refl e) h in
         rw (a, b, c) (last a b c .1 h)
+
+-- What is told of sound memory, and of any other.
+pub judged-yes : (w : List ℕ) (s : Store) (used free : ℕ) (a : Bool) (k : ℕ) → (a ≡ true) ↔ Sound w s used free → a ≡ true → k ≡ frees w (s .cells)
+    → Judged w s used free (record { sound = true; free = k })
+judged-yes w s used free a k h e f = record { exact = (λ t. h .0 e, λ x. refl); count = f }
+
+pub judged-no : (w : List ℕ) (s : Store) (used free : ℕ) (a : Bool) → (a ≡ true) ↔ Sound w s used free → a ≡ false
+    → Judged w s used free (record { sound = false; free = 0 })
+judged-no w s used free a h e = record { exact = (λ t. clash t refl, λ x. clash (h .1 x) e); count = refl }

@@ -2,3 +2,4 @@
 pub mod Sorted
 pub mod AuditTests
 pub mod Entering
+pub mod Verdicts

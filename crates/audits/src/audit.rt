@@ -3,6 +3,7 @@
 use crate::sort::all_differ;
 use crate::sort::sort;
 use crate::table::enter_both;
+use cells::stack::count_free;
 use cells::stack::stack_sound;
 use cells::store::Store;
 use cells::words::get;
@@ -17,7 +18,14 @@ ghost use Rattle.cells.specs.Words.{word};
 ghost use Rattle.cells.specs.Rules.{inUse, Sound};
 ghost use Rattle.audits.specs.AuditTests.{allBelow, blankTest, numberedTest, cellTest, usedBelow, sizeTest, differTest};
 ghost use Rattle.audits.specs.Entering.{Swept};
+ghost use Rattle.audits.specs.Verdicts.{Judged};
 ghost use Rattle.audits.specs.Sorted.{sortBy, cellLeq, neighboursDiffer};
+
+// Whether memory is sound, and how many of its cells are free then: 0 where it is not.
+pub struct Verdict {
+    pub sound: bool,
+    pub free: u64,
+}
 
 // Whether field f is not in the mask, whose digit f is the lowest of `rest`, or zero in cell c.
 fn clean(w: &[u64], c: u64, f: u64, rest: u64) -> bool
@@ -216,4 +224,20 @@ pub fn audit(w: &[u64], s: Store, used: u64, free: u64) -> bool
         return true;
     }
     sorted_differ(w, s.cells)
+}
+
+// The same, and how many cells are free, for engines that count their entries.
+pub fn audit_and_count(w: &[u64], s: Store, used: u64, free: u64) -> Verdict
+    ensures { λ r. ⌜ Judged (now (w .entry)) s used free r ⌝ }
+{
+    if audit(w, s, used, free) {
+        return Verdict {
+            sound: true,
+            free: count_free(w, s.cells),
+        };
+    }
+    Verdict {
+        sound: false,
+        free: 0,
+    }
 }
