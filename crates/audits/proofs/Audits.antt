@@ -9,14 +9,16 @@ use mathlib.Core.Path.{_≡_, refl, sym, ap, _∙_}
 use lib.Dec.{leb, ltb, eqb}
 use lib.ListN.{length, take, drop}
 use lib.Seq.{take-at}
-use borrow.Author.Tests.{eq-eqb, eqb-true, leb-true, le-leb, lt-ltb, ltb-true}
+use borrow.Author.Tests.{eq-eqb, eqb-true, leb-true, le-leb, lt-leb, lt-ltb, ltb-true}
 use Rattle.cells.specs.Lists.{times}
 use Rattle.audits.specs.Sorted.{sortBy, cellLeq, neighboursDiffer}
 use Rattle.cells.specs.Rules.{inUse, Differ, Sound}
-use Rattle.audits.specs.AuditTests.{allBelow, cellTest, differTest, usedBelow, sizeTest, sharedTest}
-use Rattle.cells.specs.Stack.{frees, stackTest}
-use Rattle.audits.specs.Entering.{Swept}
-use Rattle.audits.specs.Verdicts.{Judged}
+use Rattle.audits.specs.AuditTests.{allBelow, blankTest, usedTest, differTest, usedBelow, sizeTest, sharedTest}
+use Rattle.cells.specs.Stack.{standsAs, walks, stackTest}
+use Rattle.audits.specs.Sweeping.{Swept}
+use Rattle.audits.specs.Verdicts.{refusal, Judged, TellsApart}
+use Rattle.audits.specs.declared.audit.Verdict.{Verdict}
+use Rattle.audits.specs.declared.sweep.Findings.{Findings}
 use Rattle.cells.specs.declared.store.Store.{Store}
 use Rattle.cells.proofs.Cases.{test, clash, and-true}
 use Rattle.audits.proofs.Sorting.{times-sort}
@@ -127,108 +129,107 @@ module _ (w : List ℕ) (s : Store) (used free : ℕ) where
   sound-size : Sound w s used free → sizeTest (length w) s ≡ true
   sound-size h = size-sized (length w) s (record { size = h .size; some = h .some; most = h .most; counted = h .counted })
 
-  sound-cells : Sound w s used free → allBelow (s .cells) (cellTest w (s .counter) used free) ≡ true
-  sound-cells h = cells-rules w (s .cells) (s .counter) used free .1 (h .cell)
+  sound-used : Sound w s used free → allBelow (s .cells) (usedTest w (s .counter) used) ≡ true
+  sound-used h = cells-rules w (s .cells) (s .counter) used free .1 (h .cell) .0
 
-  sound-stack : Sound w s used free → stackTest w (s .cells) (s .free) ≡ true
-  sound-stack h = stackTest-exactly w (s .cells) (s .free) (h .most) .1 (h .stack)
+  sound-stack : Sound w s used free → stackTest w (s .cells) (blankTest w free) (s .free) ≡ true
+  sound-stack h =
+      stackTest-exactly w (s .cells) (blankTest w free) (s .free) (h .most) .1
+      (h .stack, cells-rules w (s .cells) (s .counter) used free .1 (h .cell) .1)
 
   sound-differ : Sound w s used free → differTest w (usedBelow w (s .cells)) ≡ true
   sound-differ h = differ-rules w (s .cells) .1 (h .tickets, h .orders)
 
-  -- So what fails a test is not sound.
-  fails : (t r : Bool) → (Sound w s used free → t ≡ true) → r ≡ t → r ≡ false → (false ≡ true) ↔ Sound w s used free
-  fails t r f e q = (λ z. clash z refl, λ h. clash (e ∙ f h) q)
+  -- And memory that passes each is sound.
+  sounds : sizeTest (length w) s ≡ true → allBelow (s .cells) (usedTest w (s .counter) used) ≡ true
+      → stackTest w (s .cells) (blankTest w free) (s .free) ≡ true
+      → Differ w (s .cells) 0 × Differ w (s .cells) 1
+      → Sound w s used free
+  sounds a b c d =
+      let sized : Sized (length w) s = size-true (length w) s a in
+      let stack = stackTest-exactly w (s .cells) (blankTest w free) (s .free) (sized .most) .0 c in
+      record {
+        size = sized .size;
+        some = sized .some;
+        most = sized .most;
+        counted = sized .counted;
+        cell = cells-rules w (s .cells) (s .counter) used free .0 (b, stack .1);
+        stack = stack .0;
+        tickets = d .0;
+        orders = d .1;
+      }
 
-  pub fails-size : (r : Bool) → r ≡ sizeTest (length w) s → r ≡ false → (false ≡ true) ↔ Sound w s used free
-  fails-size r e q = fails _ r sound-size e q
-
-  pub fails-cells : (r : Bool) → r ≡ allBelow (s .cells) (cellTest w (s .counter) used free) → r ≡ false → (false ≡ true) ↔ Sound w s used free
-  fails-cells r e q = fails _ r sound-cells e q
-
-  pub fails-stack : (r : Bool) → r ≡ stackTest w (s .cells) (s .free) → r ≡ false → (false ≡ true) ↔ Sound w s used free
-  fails-stack r e q = fails _ r sound-stack e q
-
-  -- And what passes the first three is sound exactly if it passes the last.
-  pub passes : (a b c r : Bool) → a ≡ sizeTest (length w) s → a ≡ true → b ≡ allBelow (s .cells) (cellTest w (s .counter) used free) → b ≡ true
-      → c ≡ stackTest w (s .cells) (s .free)
-      → c ≡ true
-      → r ≡ differTest w (usedBelow w (s .cells))
-      → (r ≡ true) ↔ Sound w s used free
-  passes a b c r p a′ q b′ e c′ f = (
+  -- The tests that every engine shares decide the rules that it shares.
+  pub shared-decides : (sharedTest w s used free ≡ true) ↔ Sound w s used free
+  unfolding sharedTest
+  shared-decides = (
     λ t.
-        let sized : Sized (length w) s = size-true (length w) s (sym p ∙ a′) in
-        let differ = differ-rules w (s .cells) .0 (sym f ∙ t) in
-        record {
-          size = sized .size;
-          some = sized .some;
-          most = sized .most;
-          counted = sized .counted;
-          cell = cells-rules w (s .cells) (s .counter) used free .0 (sym q ∙ b′);
-          stack = stackTest-exactly w (s .cells) (s .free) (sized .most) .0 (sym e ∙ c′);
-          tickets = differ .0;
-          orders = differ .1;
-        },
-    λ h. f ∙ sound-differ h,
+        let one = and-true (sizeTest (length w) s) _ t in
+        let two = and-true (allBelow (s .cells) (usedTest w (s .counter) used)) _ (one .1) in
+        let three = and-true (stackTest w (s .cells) (blankTest w free) (s .free)) (differTest w (usedBelow w (s .cells))) (two .1) in
+        sounds (one .0) (two .0) (three .0) (differ-rules w (s .cells) .0 (three .1)),
+    λ h. rw (sound-size h, sound-used h, sound-stack h) (sound-differ h),
   )
 
--- By a sweep over the cells, which finds 0, 1 or 2.
-module _ (w : List ℕ) (s : Store) (used free k : ℕ) (found : Swept w (s .cells) (allBelow (s .cells) (cellTest w (s .counter) used free)) k) where
-  pub swept-fails : k ≡ 0 → (false ≡ true) ↔ Sound w s used free
-  swept-fails e = fails-cells w s used free _ refl (found .breaks e)
+  -- What is told of memory that is not sound, by the test that fails.
+  refused : (v : Verdict) → v ≡ refusal → (Sound w s used free → ⊥) → Judged w s used free v
+  refused v e n = rw e (record { exact = (λ t. clash t refl, λ h. absurd (n h)); count = refl })
 
-  module _ (a c : Bool) (size : a ≡ sizeTest (length w) s) (sized : a ≡ true) (stack : c ≡ stackTest w (s .cells) (s .free)) (stacked : c ≡ true) where
-    pub swept-passes : k ≡ 2 → (true ≡ true) ↔ Sound w s used free
-    swept-passes e =
-        passes w s used free a _ c true size sized refl (found .keeps (omega arith)) stack stacked
-        (sym (differ-rules w (s .cells) .1 (found .differ (omega arith))))
+  pub refused-size : (v : Verdict) → v ≡ refusal → (r : Bool) → r ≡ sizeTest (length w) s → r ≡ false
+      → Judged w s used free v
+  refused-size v q r e f = refused v q (λ h. clash (e ∙ sound-size h) f)
 
-    pub swept-sorts : (k ≡ 0 → ⊥) → (r : Bool) → r ≡ differTest w (usedBelow w (s .cells)) → (r ≡ true) ↔ Sound w s used free
-    swept-sorts e r h = passes w s used free a _ c r size sized refl (found .keeps (omega arith)) stack stacked h
+  pub refused-entry : (v : Verdict) → v ≡ refusal → (r : Findings) → Swept w (s .cells) (s .counter) used r → r .sound ≡ false
+      → Judged w s used free v
+  refused-entry v q r e f = refused v q (λ h. clash (e .test ∙ rw (le-leb (s .cells) 4096 (h .most)) (sound-used h)) f)
 
--- A test that cannot fail where something holds passes there.
-unrefuted : {Q : Type 0} (t : Bool) → (t ≡ false → (false ≡ true) ↔ Q) → Q → t ≡ true
-unrefuted t f q = test t (λ e. e) (λ e. clash (f e .1 q) refl)
+  module _ (r : Findings) (seen : Swept w (s .cells) (s .counter) used r) (keeps : r .sound ≡ true) (x : Bool)
+      (stack : x ≡ walks w (standsAs w (s .cells) (blankTest w free)) (s .free) (r .free))
+    where
+      -- The stack is walked as far as there are free cells.
+      stack-walked : x ≡ stackTest w (s .cells) (blankTest w free) (s .free)
+      unfolding stackTest
+      stack-walked = stack ∙ ap (walks w (standsAs w (s .cells) (blankTest w free)) (s .free)) (seen .count keeps)
 
--- The tests that every engine shares decide the rules that it shares.
-pub shared-decides : (w : List ℕ) (s : Store) (used free : ℕ) → (sharedTest w s used free ≡ true) ↔ Sound w s used free
-unfolding sharedTest
-shared-decides w s used free = (to, from)
-  where
-    size : Bool
-    size = sizeTest (length w) s
+      pub refused-stack : (v : Verdict) → v ≡ refusal → x ≡ false → Judged w s used free v
+      refused-stack v q f = refused v q (λ h. clash (stack-walked ∙ sound-stack h) f)
 
-    cells : Bool
-    cells = allBelow (s .cells) (cellTest w (s .counter) used free)
+      module _ (size : Bool) (sized : size ≡ sizeTest (length w) s) (fits : size ≡ true) (walked : x ≡ true) where
+        accepted : Differ w (s .cells) 0 × Differ w (s .cells) 1 → Judged w s used free (record { sound = true; free = r .free })
+        accepted d =
+            record {
+              exact = (
+                λ t.
+                    sounds (sym sized ∙ fits) (and-true (leb (s .cells) 4096) _ (sym (seen .test) ∙ keeps) .1) (sym stack-walked ∙ walked) d,
+                λ h. refl,
+              );
+              count = seen .count keeps;
+            }
 
-    stack : Bool
-    stack = stackTest w (s .cells) (s .free)
+        pub accepted-tables : 1 ≤ r .left → Judged w s used free (record { sound = true; free = r .free })
+        accepted-tables h = accepted (seen .differ keeps h)
 
-    differ : Bool
-    differ = differTest w (usedBelow w (s .cells))
+        pub accepted-differ : (b : Bool) → TellsApart w s b → b ≡ true → Judged w s used free (record { sound = true; free = r .free })
+        accepted-differ b t e = accepted (t .differ e)
 
-    last : size ≡ true → cells ≡ true → stack ≡ true → (differ ≡ true) ↔ Sound w s used free
-    last a b c = passes w s used free size cells stack differ refl a refl b refl c refl
+  pub refused-differ : (v : Verdict) → v ≡ refusal → (b : Bool) → TellsApart w s b → b ≡ false → Judged w s used free v
+  refused-differ v q b t e = refused v q (λ h. clash (t .found (h .most) (h .tickets) (h .orders)) e)
 
-    to : size && (cells && (stack && differ)) ≡ true → Sound w s used free
-    to t =
-        let one = and-true size (cells && (stack && differ)) t in
-        let two = and-true cells (stack && differ) (one .1) in
-        let three = and-true stack differ (two .1) in
-        last (one .0) (two .0) (three .0) .0 (three .1)
+-- Whether the numbers differ, as the scattered tables tell it, and as the sort does.
+module _ (w : List ℕ) (s : Store) where
+  pub apart-tables : (used : ℕ) (r : Findings) → Swept w (s .cells) (s .counter) used r → r .sound ≡ true → 1 ≤ r .left → TellsApart w s true
+  apart-tables used r seen e h = record { differ = λ t. seen .differ e h; found = λ m a b. refl }
 
-    from : Sound w s used free → size && (cells && (stack && differ)) ≡ true
-    from h =
-        let a : size ≡ true = unrefuted size (λ e. fails-size w s used free size refl e) h in
-        let b : cells ≡ true = unrefuted cells (λ e. fails-cells w s used free cells refl e) h in
-        let c : stack ≡ true = unrefuted stack (λ e. fails-stack w s used free stack refl e) h in
-        rw (a, b, c) (last a b c .1 h)
+  pub apart-sorted : (b : Bool) → b ≡ leb (s .cells) 4096 && differTest w (usedBelow w (s .cells)) → TellsApart w s b
+  apart-sorted b e =
+      record {
+        differ = λ t. differ-rules w (s .cells) .0 (and-true (leb (s .cells) 4096) (differTest w (usedBelow w (s .cells))) (sym e ∙ t) .1);
+        found = λ m x y. e ∙ rw (le-leb (s .cells) 4096 m) (differ-rules w (s .cells) .1 (x, y));
+      }
 
--- What is told of sound memory, and of any other.
-pub judged-yes : (w : List ℕ) (s : Store) (used free : ℕ) (a : Bool) (k : ℕ) → (a ≡ true) ↔ Sound w s used free → a ≡ true → k ≡ frees w (s .cells)
-    → Judged w s used free (record { sound = true; free = k })
-judged-yes w s used free a k h e f = record { exact = (λ t. h .0 e, λ x. refl); count = f }
+-- Sorting where there are few enough cells, and a no where there are not.
+pub few-sorted : (n : ℕ) (r t : Bool) → n ≤ 4096 → r ≡ t → r ≡ leb n 4096 && t
+few-sorted n r t h e = rw (le-leb n 4096 h) e
 
-pub judged-no : (w : List ℕ) (s : Store) (used free : ℕ) (a : Bool) → (a ≡ true) ↔ Sound w s used free → a ≡ false
-    → Judged w s used free (record { sound = false; free = 0 })
-judged-no w s used free a h e = record { exact = (λ t. clash t refl, λ x. clash (h .1 x) e); count = refl }
+pub many-sorted : (n : ℕ) (t : Bool) → 4096 < n → false ≡ leb n 4096 && t
+many-sorted n t h = rw (lt-leb n 4096 h)

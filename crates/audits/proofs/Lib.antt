@@ -9,6 +9,7 @@ pub mod Steps
 pub mod Rules
 pub mod Masks
 pub mod Distinct
+pub mod Tabled
+pub mod Sweeps
 pub mod Audits
 pub mod Stability
-pub mod Tabled

@@ -7,14 +7,15 @@ use mathlib.Core.List.{List, [], _∷_}
 use mathlib.Core.Logic.{_↔_}
 use mathlib.Core.Path.{_≡_, refl, sym, ap, _∙_}
 use lib.Dec.{leb, ltb, eqb}
-use borrow.Author.Tests.{leb-true, le-leb, ltb-true, lt-ltb, le-ltb, eqb-true, eq-eqb, not-true}
+use borrow.Author.Tests.{leb-true, le-leb, ltb-true, lt-ltb, le-ltb, eqb-true, eq-eqb, not-true, not-false}
 use Rattle.cells.proofs.Cases.{test, same?, atMost?, clash, and-true, or-true}
 use Rattle.audits.proofs.Below.{below-each, each-below}
 use Rattle.cells.proofs.Lists.{times-here, times-past, times-append}
 use Rattle.cells.specs.Lists.{times}
 use Rattle.cells.specs.Words.{word}
 use Rattle.cells.specs.Rules.{inUse, inMask, CellRule}
-use Rattle.audits.specs.AuditTests.{allBelow, fieldTest, blankTest, numberedTest, cellTest, usedBelow}
+use Rattle.cells.specs.Stack.{isFree}
+use Rattle.audits.specs.AuditTests.{allBelow, fieldTest, blankTest, numberedTest, usedTest, usedBelow}
 
 module _ (w : List ℕ) where
   -- The fields of a mask are zero.
@@ -34,42 +35,63 @@ module _ (w : List ℕ) where
       (λ t. unfold fieldTest in rw (t, eq-eqb (word w c f) 0 (h f k t)))
       (λ t. unfold fieldTest in rw t))
 
-  -- One cell's test decides its rules.
-  cell-rule : (counter used free c : ℕ) → cellTest w counter used free c ≡ true → CellRule w counter used free c
-  unfolding cellTest numberedTest
-  cell-rule counter used free c =
-      test (inUse w c)
-      (λ e h.
-      let parts = and-true (numberedTest w counter c) (blankTest w used c) (rw e at h) in
-      let numbers = and-true (leb (word w c 0) (word w c 1)) (ltb (word w c 1) counter) (parts .0) in
-      record {
-        ticket = λ u. leb-true (word w c 0) (word w c 1) (numbers .0);
-        order = λ u. ltb-true (word w c 1) counter (numbers .1);
-        blank = λ f k i. blank-each used c (parts .1) f k (rw e at i);
-      })
-      (λ e h.
-      record {
-        ticket = λ u. clash u e;
-        order = λ u. clash u e;
-        blank = λ f k i. blank-each free c (rw e at h) f k (rw e at i);
-      })
+  -- A cell is in use or free.
+  used-not-free : (c : ℕ) → inUse w c ≡ true → isFree w c ≡ false
+  unfolding inUse
+  used-not-free c e = not-true (isFree w c) e
 
-  rule-cell : (counter used free c : ℕ) → CellRule w counter used free c → cellTest w counter used free c ≡ true
-  unfolding cellTest numberedTest
-  rule-cell counter used free c r =
+  not-used-free : (c : ℕ) → inUse w c ≡ false → isFree w c ≡ true
+  unfolding inUse
+  not-used-free c e = not-false (isFree w c) e
+
+  free-not-used : (c : ℕ) → isFree w c ≡ true → inUse w c ≡ false
+  unfolding inUse
+  free-not-used c e = rw e
+
+  -- The rules of a cell, by the test of an entry, and by that of a free cell.
+  test-rule : (counter used free c : ℕ) → usedTest w counter used c ≡ true → (isFree w c ≡ true → blankTest w free c ≡ true)
+      → CellRule w counter used free c
+  unfolding usedTest numberedTest
+  test-rule counter used free c u b =
       test (inUse w c)
       (λ e.
-      rw e
+      let parts = and-true (numberedTest w counter c) (blankTest w used c) (rw (used-not-free c e) at u) in
+      let numbers = and-true (leb (word w c 0) (word w c 1)) (ltb (word w c 1) counter) (parts .0) in
+      record {
+        ticket = λ h. leb-true (word w c 0) (word w c 1) (numbers .0);
+        order = λ h. ltb-true (word w c 1) counter (numbers .1);
+        blank = λ f k i. blank-each used c (parts .1) f k (rw e at i);
+      })
+      (λ e.
+      record {
+        ticket = λ h. clash h e;
+        order = λ h. clash h e;
+        blank = λ f k i. blank-each free c (b (not-used-free c e)) f k (rw e at i);
+      })
+
+  rule-used : (counter used free c : ℕ) → CellRule w counter used free c → usedTest w counter used c ≡ true
+  unfolding usedTest numberedTest
+  rule-used counter used free c r =
+      test (inUse w c)
+      (λ e.
+      rw (used-not-free c e)
       (rw (le-leb (word w c 0) (word w c 1) (r .ticket e), lt-ltb (word w c 1) counter (r .order e))
       (each-blank used c (λ f k i. r .blank f k (rw e i)))))
-      (λ e. rw e (each-blank free c (λ f k i. r .blank f k (rw e i))))
+      (λ e. rw (not-used-free c e))
 
-  -- The test of all cells decides the rules of each.
+  rule-free : (counter used free c : ℕ) → CellRule w counter used free c → isFree w c ≡ true → blankTest w free c ≡ true
+  rule-free counter used free c r e = each-blank free c (λ f k i. r .blank f k (rw (free-not-used c e) i))
+
+  -- The test of all entries and that of all free cells decide the rules of each cell.
   pub cells-rules : (n counter used free : ℕ)
-      → (allBelow n (cellTest w counter used free) ≡ true) ↔ ((c : ℕ) → c < n → CellRule w counter used free c)
+      → ((allBelow n (usedTest w counter used) ≡ true) × ((c : ℕ) → c < n → isFree w c ≡ true → blankTest w free c ≡ true))
+      ↔ ((c : ℕ) → c < n → CellRule w counter used free c)
   cells-rules n counter used free = (
-    λ t c h. cell-rule counter used free c (below-each (cellTest w counter used free) n t c h),
-    λ r. each-below (cellTest w counter used free) n (λ c h. rule-cell counter used free c (r c h)),
+    λ t c h. test-rule counter used free c (below-each (usedTest w counter used) n (t .0) c h) (t .1 c h),
+    λ r. (
+      each-below (usedTest w counter used) n (λ c h. rule-used counter used free c (r c h)),
+      λ c h e. rule-free counter used free c (r c h) e,
+    ),
   )
 
 -- A list of one cell or none.

@@ -16,7 +16,7 @@ use Rattle.audits.proofs.Below.{below-fails}
 use Rattle.cells.specs.declared.store.Store.{Store}
 use Rattle.cells.specs.Words.{word}
 use Rattle.cells.specs.Rules.{inUse, inMask}
-use Rattle.audits.specs.AuditTests.{allBelow, fieldTest, blankTest, numberedTest, cellTest, usedBelow, sizeTest}
+use Rattle.audits.specs.AuditTests.{allBelow, fieldTest, blankTest, numberedTest, usedBelow, sizeTest}
 
 module _ (w : List ℕ) where
   pub numbered-yes : (counter c t o : ℕ) → t ≡ word w c 0 → o ≡ word w c 1 → t ≤ o → ltb o counter ≡ numberedTest w counter c
@@ -43,22 +43,6 @@ module _ (w : List ℕ) where
   pub blank-yes : (m c f : ℕ) → f ≡ 8 → allBelow f (fieldTest w m c) ≡ true → true ≡ blankTest w m c
   unfolding blankTest
   blank-yes m c f h e = sym (rw h at e)
-
-  -- A cell by its ticket.
-  pub cell-free : (counter used free c t : ℕ) (r : Bool) → t ≡ word w c 0 → t ≡ 0 → r ≡ blankTest w free c → r ≡ cellTest w counter used free c
-  unfolding cellTest inUse
-  cell-free counter used free c t r p z e = rw (← p) (rw (eq-eqb t 0 z) e)
-
-  pub cell-used : (counter used free c t : ℕ) (n r : Bool) → t ≡ word w c 0 → (t ≡ 0 → ⊥) → n ≡ numberedTest w counter c → n ≡ true
-      → r ≡ blankTest w used c
-      → r ≡ cellTest w counter used free c
-  unfolding cellTest inUse
-  cell-used counter used free c t n r p z q y e = rw (← p) (rw (ne-eqb t 0 z) (rw (sym q ∙ y) e))
-
-  pub cell-bad : (counter used free c t : ℕ) (n : Bool) → t ≡ word w c 0 → (t ≡ 0 → ⊥) → n ≡ numberedTest w counter c → n ≡ false
-      → false ≡ cellTest w counter used free c
-  unfolding cellTest inUse
-  cell-bad counter used free c t n p z q y = rw (← p) (rw (ne-eqb t 0 z) (rw (sym q ∙ y)))
 
 -- A cell by its ticket word.
 pub in-use : (w : List ℕ) (c t : ℕ) → t ≡ word w c 0 → (t ≡ 0 → ⊥) → inUse w c ≡ true

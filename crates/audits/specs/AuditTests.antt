@@ -8,7 +8,7 @@ use lib.ListN.{length}
 use Rattle.cells.specs.Words.{word}
 use Rattle.audits.specs.Sorted.{sortBy, cellLeq, neighboursDiffer}
 use Rattle.cells.specs.Rules.{inUse, inMask}
-use Rattle.cells.specs.Stack.{stackTest}
+use Rattle.cells.specs.Stack.{isFree, stackTest}
 use Rattle.cells.specs.declared.store.Store.{Store}
 
 -- A test passes at each number below n.
@@ -27,9 +27,9 @@ blankTest w m c = allBelow 8 (fieldTest w m c)
 unfoldable pub numberedTest : List ℕ → ℕ → ℕ → Bool
 numberedTest w counter c = leb (word w c 0) (word w c 1) && ltb (word w c 1) counter
 
--- Both rules of one cell.
-unfoldable pub cellTest : List ℕ → ℕ → ℕ → ℕ → ℕ → Bool
-cellTest w counter used free c = cond (inUse w c) (numberedTest w counter c && blankTest w used c) (blankTest w free c)
+-- The rules of an entry: of cell c, if it is in use.
+unfoldable pub usedTest : List ℕ → ℕ → ℕ → ℕ → Bool
+usedTest w counter used c = isFree w c || (numberedTest w counter c && blankTest w used c)
 
 -- The cells in use among the first n, by rising number.
 unfoldable pub usedBelow : List ℕ → ℕ → List ℕ
@@ -50,5 +50,5 @@ differTest w a =
 unfoldable pub sharedTest : List ℕ → Store → ℕ → ℕ → Bool
 sharedTest w s used free =
     sizeTest (length w) s
-    && (allBelow (s .cells) (cellTest w (s .counter) used free)
-    && (stackTest w (s .cells) (s .free) && differTest w (usedBelow w (s .cells))))
+    && (allBelow (s .cells) (usedTest w (s .counter) used)
+    && (stackTest w (s .cells) (blankTest w free) (s .free) && differTest w (usedBelow w (s .cells))))

@@ -1,5 +1,6 @@
--- What the shared audit tests, and sorting.
+-- What the shared audit tests, by one pass over the cells with tables, and sorting.
 pub mod Sorted
 pub mod AuditTests
-pub mod Entering
+pub mod Tables
+pub mod Sweeping
 pub mod Verdicts

@@ -1,35 +1,60 @@
-// Tables of cells by their tickets and by their order numbers, which tell in one pass that these differ. They may give up: then they say nothing, and a
-// sort decides.
+// Tables of cells by their tickets and by their order numbers, which tell in one pass that these differ. A table may give up: then it says nothing, and
+// something slower decides.
 
 use crate::sort::word_of;
-use cells::stack::is_free;
 use cells::words::get;
 ghost use Prim.Native.Nat.{_<_};
 ghost use mathlib.Core.Path.{_≡_};
-ghost use Rattle.audits.specs.Entering.{startOf, Enters, EntersBoth};
+ghost use Rattle.audits.specs.Tables.{evenly as evenlyOf, scattered as scatteredOf, spreadOf, startOf, Looks, Enters, EntersBoth};
 
-// The slot at which a look for this word begins in a table of so many: words that follow each other begin one behind the other, and so do those that
-// many apart.
-fn start(size: u64, key: u64) -> usize
-    ensures { λ r. ⌜ r ≡ startOf size key ⌝ }
-{
-    if size == 1024 {
-        return ((key % 1024 + key / 1024) % 1024) as usize;
-    }
-    ((key % 8192 + key / 8192) % 8192) as usize
+// A table of 1,024 slots, or of 8,192; and whether numbers are scattered over it, not only spread.
+pub struct Layout {
+    pub small: bool,
+    pub scattered: bool,
 }
 
-// Puts cell c, if it is in use, into the first empty slot from its word's start on, and says how many of the steps are left. It gives up, and says 0, at a
-// cell with an equal word, at the table's end, and where no step is left.
-fn enter(w: &[u64], f: u64, c: u64, size: u64, t: &mut [u16], left: u64) -> u64
-    requires { ⌜ c < 4096 ⌝ }
-    ensures { λ r. ⌜ Enters (now (w .entry)) f size c (now (t .entry)) left r (now (t .exit)) ⌝ }
+// A number spread over 31 bits by the golden ratio: numbers that follow each other fall far apart, and of as many as a table is to hold no two fall
+// into one slot. What lies above 32 bits is added, so that the product fits.
+fn evenly(key: u64) -> u64
+    ensures { λ r. ⌜ r ≡ evenlyOf key ⌝ }
 {
-    if is_free(w, c) {
-        return left;
+    (key % 4294967296 + key / 4294967296) * 1327217885 % 2147483648
+}
+
+// A spread number scattered by the product of its halves: numbers at equal distances, which the spread alone may crowd, fall as if by chance.
+fn scatter(x: u64) -> u64
+    ensures { λ r. ⌜ r ≡ scatteredOf x ⌝ }
+{
+    x % 65536 * (x / 65536 % 32768 + 40503) * 1327217885 % 2147483648
+}
+
+// A number as it is laid out over 31 bits.
+fn spread(k: Layout, key: u64) -> u64
+    ensures { λ r. ⌜ r ≡ spreadOf k key ⌝ }
+{
+    if k.scattered {
+        return scatter(evenly(key));
     }
-    let key = get(w, c, f);
-    let mut i = start(size, key);
+    evenly(key)
+}
+
+// The slot at which a look for this number begins.
+fn start(k: Layout, key: u64) -> usize
+    ensures { λ r. ⌜ r ≡ startOf k key ⌝ }
+{
+    if k.small {
+        return (spread(k, key) / 2097152) as usize;
+    }
+    (spread(k, key) / 262144) as usize
+}
+
+// Puts cell c, whose number is the key, into the first empty slot from slot i on, and says how many of the steps are left. It gives up, and says 0, at a
+// cell with an equal number, at the table's end, and where no step is left.
+fn look_on(w: &[u64], f: u64, c: u64, key: u64, from: usize, t: &mut [u16], left: u64) -> u64
+    requires { ⌜ c < 4096 ⌝ }
+    ensures { λ r. ⌜ Looks (now (w .entry)) f c key from (now (t .entry)) left r (now (t .exit)) ⌝ }
+{
+    let mut i = from;
     let mut rest = left;
     while rest > 0 {
         if i >= t.len() {
@@ -49,13 +74,30 @@ fn enter(w: &[u64], f: u64, c: u64, size: u64, t: &mut [u16], left: u64) -> u64
     0
 }
 
-// The same for both words of cell c, each in its own table.
-pub fn enter_both(w: &[u64], c: u64, size: u64, t: &mut [u16], u: &mut [u16], left: u64) -> u64
-    ensures { λ r. ⌜ EntersBoth (now (w .entry)) size c (now (t .entry)) (now (u .entry)) left r (now (t .exit)) (now (u .exit)) ⌝ }
+// Puts cell c into the table by its number at f. Nearly always the first slot is empty, so that is tried before the look.
+fn enter(w: &[u64], f: u64, c: u64, k: Layout, t: &mut [u16], left: u64) -> u64
+    requires { ⌜ c < 4096 ⌝ }
+    ensures { λ r. ⌜ Enters (now (w .entry)) f k c (now (t .entry)) left r (now (t .exit)) ⌝ }
+{
+    let key = get(w, c, f);
+    let i = start(k, key);
+    if i < t.len() {
+        let d = t[i];
+        if d == 4096 {
+            t[i] = c as u16;
+            return left;
+        }
+    }
+    look_on(w, f, c, key, i, t, left)
+}
+
+// Puts cell c, one in use, into a table by its ticket and into another by its order number, and says how many of the steps are left: 0 where one gives up.
+pub fn enter_both(w: &[u64], c: u64, k: Layout, t: &mut [u16], u: &mut [u16], left: u64) -> u64
+    ensures { λ r. ⌜ EntersBoth (now (w .entry)) k c (now (t .entry)) (now (u .entry)) left r (now (t .exit)) (now (u .exit)) ⌝ }
 {
     if c >= 4096 {
         return 0;
     }
-    let rest = enter(w, 0, c, size, t, left);
-    enter(w, 1, c, size, u, rest)
+    let rest = enter(w, 0, c, k, t, left);
+    enter(w, 1, c, k, u, rest)
 }

@@ -3,47 +3,64 @@
 use Prim.Native.Nat.{ℕ, zero, suc, _+_, _-_, _≤_, _<_}
 use native.Mathlib.Numerals.{add-one}
 use native.Mathlib.Omega.{arith}
-use mathlib.Core.Bool.{true, false, cond, _&&_}
+use mathlib.Core.Bool.{Bool, true, false, cond, _&&_}
 use mathlib.Core.List.{List, [], _∷_}
 use mathlib.Core.Logic.{_↔_}
 use mathlib.Core.Path.{_≡_, refl, sym, _∙_}
-use lib.Dec.{leb, ltb, eqb}
+use lib.Dec.{ltb, eqb}
 use lib.ListN.{length}
-use borrow.Author.Tests.{ltb-true, leb-true, eqb-true, lt-ltb, le-ltb, le-leb, lt-leb, eq-eqb}
+use borrow.Author.Tests.{ltb-true, eqb-true, lt-ltb, le-ltb, eq-eqb}
 use Rattle.cells.proofs.Cases.{test, clash, atMost?, and-true}
 use Rattle.cells.proofs.Chains.{AreCells, follow, length-follow, chain-once}
-use Rattle.cells.proofs.Lists.{all-map}
+use Rattle.cells.proofs.Lists.{all-map, all-times}
 use Rattle.cells.proofs.Sums.{sumBelow-same, sumBelow-pinned, length-times, times-none, all-standing}
 use Rattle.cells.specs.Lists.{All, times, sumBelow}
-use Rattle.cells.specs.Stack.{noCell, Chain, isFree, link, frees, stands, walks, StackRule, stackTest}
+use Rattle.cells.specs.Stack.{noCell, Chain, isFree, link, frees, stands, standsAs, walks, StackRule, stackTest}
 
 -- A cell that may stand in the stack is below n, and free.
 pub stands-true : (w : List ℕ) (n c : ℕ) → stands w n c ≡ true → (c < n) × (isFree w c ≡ true)
 unfolding stands
 stands-true w n c e = let both = and-true (ltb c n) (isFree w c) e in (ltb-true c n (both .0), both .1)
 
+module _ (w : List ℕ) (ok : ℕ → Bool) where
+  -- A walk that passes is a list of linked cells, each of which passes.
+  walks-linked : (c k : ℕ) → walks w ok c k ≡ true → Chain (link w) c (follow (link w) c k)
+  unfolding walks follow
+  walks-linked c zero e = eqb-true c noCell e
+  walks-linked c (suc k) e = (refl, walks-linked (link w c) k (and-true (ok c) (walks w ok (link w c) k) e .1))
+
+  walks-all : (c k : ℕ) → walks w ok c k ≡ true → All (λ (x : ℕ). ok x ≡ true) (follow (link w) c k)
+  unfolding walks follow
+  walks-all c zero e = tt
+  walks-all c (suc k) e =
+      let both = and-true (ok c) (walks w ok (link w c) k) e in (both .0, walks-all (link w c) k (both .1))
+
+  -- And the other way round.
+  chain-walks : (a : ℕ) (cs : List ℕ) → Chain (link w) a cs → All (λ (x : ℕ). ok x ≡ true) cs → walks w ok a (length cs) ≡ true
+  unfolding walks
+  chain-walks a [] h p = eq-eqb a noCell h
+  chain-walks a (c ∷ cs) h p = rw (h .0, p .0) (chain-walks (link w c) cs (h .1) (p .1))
+
+  -- The steps of the code: one link more is followed, the walk ends, or a cell fails.
+  pub walks-on : (c k : ℕ) → 0 < k → ok c ≡ true → walks w ok c k ≡ walks w ok (link w c) (k - 1)
+  unfolding walks
+  walks-on c zero h e = absurd (omega arith)
+  walks-on c (suc k) h e = let one : suc k - 1 ≡ k = omega arith in rw (e, one)
+
+  pub walks-end : (c k : ℕ) → k ≤ 0 → walks w ok c k ≡ eqb c noCell
+  unfolding walks
+  walks-end c zero h = refl
+  walks-end c (suc k) h = absurd (omega arith)
+
+  pub walks-stuck : (c k : ℕ) → 0 < k → ok c ≡ false → walks w ok c k ≡ false
+  unfolding walks
+  walks-stuck c zero h e = absurd (omega arith)
+  walks-stuck c (suc k) h e = rw e
+
 module _ (w : List ℕ) (n : ℕ) where
   -- Each is one of the first n cells, and free.
   abbrev AllStand : List ℕ → Type 0
   AllStand cs = All (λ (c : ℕ). stands w n c ≡ true) cs
-
-  -- A walk that passes is a list of linked cells, each free and below n.
-  walks-linked : (c k : ℕ) → walks w n c k ≡ true → Chain (link w) c (follow (link w) c k)
-  unfolding walks follow
-  walks-linked c zero e = eqb-true c noCell e
-  walks-linked c (suc k) e = (refl, walks-linked (link w c) k (and-true (stands w n c) (walks w n (link w c) k) e .1))
-
-  walks-stand : (c k : ℕ) → walks w n c k ≡ true → AllStand (follow (link w) c k)
-  unfolding walks follow
-  walks-stand c zero e = tt
-  walks-stand c (suc k) e =
-      let both = and-true (stands w n c) (walks w n (link w c) k) e in (both .0, walks-stand (link w c) k (both .1))
-
-  -- And the other way round.
-  chain-walks : (a : ℕ) (cs : List ℕ) → Chain (link w) a cs → AllStand cs → walks w n a (length cs) ≡ true
-  unfolding walks
-  chain-walks a [] h p = eq-eqb a noCell h
-  chain-walks a (c ∷ cs) h p = rw (h .0, p .0) (chain-walks (link w c) cs (h .1) (p .1))
 
   -- As many free cells below n as there are, linked up to no cell, are all of them, once each.
   module _ (small : n ≤ noCell) (cs : List ℕ) (p : AllStand cs) where
@@ -70,28 +87,6 @@ module _ (w : List ℕ) (n : ℕ) where
         omega (arith, length-times n cs below)) c k))
 
 module _ {w : List ℕ} {n top : ℕ} where
-  -- The test finds the stack that the rule asks for.
-  pub stackTest-sound : stackTest w n top ≡ true → StackRule w n top
-  unfolding stackTest
-  stackTest-sound e =
-      record {
-        cells = cells;
-        linked = linked;
-        once = all-once w n (leb-true n noCell (both .0)) cells stand top linked (length-follow (link w) top (frees w n));
-      }
-    where
-      both : (leb n noCell ≡ true) × (walks w n top (frees w n) ≡ true)
-      both = and-true (leb n noCell) (walks w n top (frees w n)) e
-
-      cells : List ℕ
-      cells = follow (link w) top (frees w n)
-
-      linked : Chain (link w) top cells
-      linked = walks-linked w n top (frees w n) (both .1)
-
-      stand : AllStand w n cells
-      stand = walks-stand w n top (frees w n) (both .1)
-
   -- Each cell of a stack that keeps the rule is free and below n.
   pub rule-stands : (r : StackRule w n top) → All (λ (c : ℕ). stands w n c ≡ true) (r .cells)
   unfolding stands
@@ -108,16 +103,60 @@ module _ {w : List ℕ} {n top : ℕ} where
       sym (length-times n (r .cells) (rule-below r))
       ∙ sumBelow-same (λ (c : ℕ). times c (r .cells)) (λ (c : ℕ). cond (isFree w c) 1 0) n (λ c k. rw lt-ltb at (r .once c))
 
-  -- The test passes wherever the rule holds.
-  pub stackTest-found : n ≤ noCell → StackRule w n top → stackTest w n top ≡ true
+-- The test passes exactly if the rule holds and each free cell passes the further test.
+module _ (w : List ℕ) (n : ℕ) (also : ℕ → Bool) (top : ℕ) (small : n ≤ noCell) where
+  -- A cell of the stack is free and passes.
+  as-stands : (c : ℕ) → standsAs w n also c ≡ true → (stands w n c ≡ true) × (also c ≡ true)
+  unfolding standsAs
+  as-stands c e = and-true (stands w n c) (also c) e
+
+  stands-as : (c : ℕ) → stands w n c ≡ true → also c ≡ true → standsAs w n also c ≡ true
+  unfolding standsAs
+  stands-as c e a = rw e a
+
+  stackTest-stack : stackTest w n also top ≡ true → StackRule w n top
   unfolding stackTest
-  stackTest-found h r = rw (le-leb n noCell h, ← rule-length r) (chain-walks w n top (r .cells) (r .linked) (rule-stands r))
+  stackTest-stack e =
+      record {
+        cells = cells;
+        linked = linked;
+        once =
+            all-once w n small cells (all-map (λ c h. as-stands c h .0) cells (walks-all w (standsAs w n also) top (frees w n) e)) top linked
+            (length-follow (link w) top (frees w n));
+      }
+    where
+      cells : List ℕ
+      cells = follow (link w) top (frees w n)
 
--- The test passes exactly if the rule holds.
-pub stackTest-exactly : (w : List ℕ) (n top : ℕ) → n ≤ noCell → (stackTest w n top ≡ true) ↔ StackRule w n top
-stackTest-exactly w n top h = (stackTest-sound, stackTest-found h)
+      linked : Chain (link w) top cells
+      linked = walks-linked w (standsAs w n also) top (frees w n) e
 
--- The steps of the code: one cell is tested, one cell more is counted, one link more is followed.
+  -- A walk over a list of linked cells shows that each of them passes.
+  chain-also : (a : ℕ) (cs : List ℕ) → Chain (link w) a cs → walks w (standsAs w n also) a (length cs) ≡ true → All (λ (c : ℕ). also c ≡ true) cs
+  unfolding walks
+  chain-also a [] h e = tt
+  chain-also a (c ∷ cs) h e =
+      let both = and-true (standsAs w n also c) (walks w (standsAs w n also) (link w c) (length cs)) (rw (h .0) at e) in
+      (as-stands c (both .0) .1, chain-also (link w c) cs (h .1) (both .1))
+
+  stackTest-also : stackTest w n also top ≡ true → (c : ℕ) → c < n → isFree w c ≡ true → also c ≡ true
+  unfolding stackTest
+  stackTest-also e c h f =
+      let r : StackRule w n top = stackTest-stack e in
+      all-times (λ (x : ℕ). also x ≡ true) (r .cells) (chain-also top (r .cells) (r .linked) (rw (rule-length r) e)) c
+      (rw (r .once c) (rw (lt-ltb c n h, f) (omega arith)))
+
+  stackTest-found : StackRule w n top → ((c : ℕ) → c < n → isFree w c ≡ true → also c ≡ true) → stackTest w n also top ≡ true
+  unfolding stackTest
+  stackTest-found r h =
+      rw (← rule-length r)
+      (chain-walks w (standsAs w n also) top (r .cells) (r .linked)
+      (all-map (λ c e. stands-as c e (h c (stands-true w n c e .0) (stands-true w n c e .1))) (r .cells) (rule-stands r)))
+
+  pub stackTest-exactly : (stackTest w n also top ≡ true) ↔ (StackRule w n top × ((c : ℕ) → c < n → isFree w c ≡ true → also c ≡ true))
+  stackTest-exactly = (λ e. (stackTest-stack e, stackTest-also e), λ r. stackTest-found (r .0) (r .1))
+
+-- The steps of the code: one cell is tested, one cell more is counted.
 pub stands-below : (w : List ℕ) (n c : ℕ) → c < n → stands w n c ≡ isFree w c
 unfolding stands
 stands-below w n c h = rw (lt-ltb c n h)
@@ -138,27 +177,3 @@ pub frees-most : (w : List ℕ) (n : ℕ) → frees w n ≤ n
 unfolding frees sumBelow
 frees-most w zero = omega arith
 frees-most w (suc n) = test (isFree w n) (λ e. rw e (omega (arith, frees-most w n))) (λ e. rw e (omega (arith, frees-most w n)))
-
-module _ (w : List ℕ) (n c : ℕ) where
-  pub walks-on : (k : ℕ) → 0 < k → stands w n c ≡ true → walks w n c k ≡ walks w n (link w c) (k - 1)
-  unfolding walks
-  walks-on zero h e = absurd (omega arith)
-  walks-on (suc k) h e = let one : suc k - 1 ≡ k = omega arith in rw (e, one)
-
-  pub walks-end : (k : ℕ) → k ≤ 0 → walks w n c k ≡ eqb c noCell
-  unfolding walks
-  walks-end zero h = refl
-  walks-end (suc k) h = absurd (omega arith)
-
-  pub walks-stuck : (k : ℕ) → 0 < k → stands w n c ≡ false → walks w n c k ≡ false
-  unfolding walks
-  walks-stuck zero h e = absurd (omega arith)
-  walks-stuck (suc k) h e = rw e
-
-pub stackTest-few : (w : List ℕ) (n top : ℕ) → n ≤ noCell → stackTest w n top ≡ walks w n top (frees w n)
-unfolding stackTest
-stackTest-few w n top h = rw (le-leb n noCell h)
-
-pub stackTest-many : (w : List ℕ) (n top : ℕ) → noCell < n → stackTest w n top ≡ false
-unfolding stackTest
-stackTest-many w n top h = rw (lt-leb n noCell h)

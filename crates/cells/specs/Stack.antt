@@ -4,7 +4,7 @@ use Prim.Native.Nat.{ℕ, zero, suc}
 use mathlib.Core.Bool.{Bool, cond, _&&_}
 use mathlib.Core.List.{List, [], _∷_}
 use mathlib.Core.Path.{_≡_}
-use lib.Dec.{leb, ltb, eqb}
+use lib.Dec.{ltb, eqb}
 use Rattle.cells.specs.Lists.{times, sumBelow}
 use Rattle.cells.specs.Words.{word}
 
@@ -33,10 +33,10 @@ frees w n = sumBelow (λ (c : ℕ). cond (isFree w c) 1 0) n
 unfoldable pub stands : List ℕ → ℕ → ℕ → Bool
 stands w n c = ltb c n && isFree w c
 
--- From c it is k links to no cell, each of a free cell below n.
-unfoldable pub walks : List ℕ → ℕ → ℕ → ℕ → Bool
-walks w n c zero = eqb c noCell
-walks w n c (suc k) = stands w n c && walks w n (link w c) k
+-- From c it is k links to no cell, each of a cell that passes a test.
+unfoldable pub walks : List ℕ → (ℕ → Bool) → ℕ → ℕ → Bool
+walks w ok c zero = eqb c noCell
+walks w ok c (suc k) = ok c && walks w ok (link w c) k
 
 -- "the free ones stand once each in the free stack and nothing else does"
 pub record StackRule (w : List ℕ) (n top : ℕ) : Type 0 where
@@ -44,6 +44,10 @@ pub record StackRule (w : List ℕ) (n top : ℕ) : Type 0 where
   pub linked : Chain (link w) top cells
   pub once : (c : ℕ) → times c cells ≡ cond (ltb c n && isFree w c) 1 0
 
--- The rule as it is tested: from the top it is as many links to no cell as there are free cells.
-unfoldable pub stackTest : List ℕ → ℕ → ℕ → Bool
-stackTest w n top = leb n noCell && walks w n top (frees w n)
+-- The cell may stand in the stack, and passes a further test.
+unfoldable pub standsAs : List ℕ → ℕ → (ℕ → Bool) → ℕ → Bool
+standsAs w n also c = stands w n c && also c
+
+-- The rule as it is tested, of free cells that pass a further test: from the top it is as many links to no cell as there are free cells.
+unfoldable pub stackTest : List ℕ → ℕ → (ℕ → Bool) → ℕ → Bool
+stackTest w n also top = walks w (standsAs w n also) top (frees w n)

@@ -7,19 +7,15 @@ use Rattle.audits.proofs.audit.size_sound.Tie as tie
 use Rattle.audits.proofs.audit.size_sound.Reads as reads
 use Rattle.audits.proofs.audit.size_sound.Lts as lts
 
--- src/audit.rt:119:17
 returns : tie.Need-returns
 returns c = size-counter _ _ (search needs) (search needs) (search needs)
 
--- src/audit.rt:112:1
 returns-2 : tie.Need-returns-2
 returns-2 c = size-many _ _ (search needs)
 
--- src/audit.rt:112:1
 returns-3 : tie.Need-returns-3
 returns-3 c = size-none _ _ (search needs)
 
--- src/audit.rt:112:1
 returns-4 : tie.Need-returns-4
 returns-4 c = size-other _ _ (search needs)
 

@@ -1,37 +1,31 @@
 -- `audits::table::enter_both` meets its contract.
 -- Assumes nothing.
-use Rattle.audits.proofs.Tabled.{enters-both, gives-both-up}
 use borrow.Author.Needs.{needs}
+use Rattle.audits.proofs.Tabled.{both-enter, both-stop}
 use Rattle.audits.proofs.table.enter_both.Statement.{statement}
 use Rattle.audits.proofs.table.enter_both.Tie as tie
 use Rattle.audits.proofs.table.enter_both.Reads as reads
 use Rattle.audits.proofs.table.enter_both.Lts as lts
 use Rattle.audits.proofs.table.enter.Reads as enter-reads
 
--- src/table.rt:57:9
 returns : tie.Need-returns
-returns c = gives-both-up _ _ _ _ _ _ _ _
+returns c = both-stop _ _ _ _ _ _ _ _
 
--- src/table.rt:59:9
 enter-requires : tie.Need-enter-requires
 enter-requires c κs = search needs
 
--- src/table.rt:60:5
 enter-requires-2 : tie.Need-enter-requires-2
 enter-requires-2 c κs = search needs
 
--- src/table.rt:53:1
 same-length : tie.Need-same-length
 same-length c = search needs
 
--- src/table.rt:53:1
 same-length-2 : tie.Need-same-length-2
 same-length-2 c = search needs
 
--- src/table.rt:53:1
 returns-2 : tie.Need-returns-2
 returns-2 c =
-    enters-both _ _ _ _ _ _ _ _ _ _ (c .before .before .before .before .before .before .enter .ensures) (c .before .before .enter2 .ensures)
+    both-enter _ _ _ _ _ _ _ _ _ _ (c .before .before .before .before .before .before .enter .ensures) (c .before .before .enter2 .ensures)
 
 pub enter-both-spec : {M : Type 1} → statement M
 enter-both-spec =

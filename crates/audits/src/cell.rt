@@ -1,0 +1,56 @@
+// The rules of one cell: unused words are zero, and the numbers of an entry stand in order.
+
+use cells::words::get;
+ghost use Prim.Native.Nat.{_%_};
+ghost use mathlib.Core.Bool.{_&&_, _||_, not};
+ghost use mathlib.Core.Path.{_≡_};
+ghost use lib.Dec.{eqb};
+ghost use Rattle.cells.specs.Words.{word};
+ghost use Rattle.audits.specs.AuditTests.{blankTest, numberedTest};
+
+// Whether field f is not in the mask, whose digit f is the lowest of `rest`, or zero in cell c.
+fn clean(w: &[u64], c: u64, f: u64, rest: u64) -> bool
+    ensures { λ r. ⌜ r ≡ not (eqb (rest % 2) 1) || eqb (word (now (w .entry)) c f) 0 ⌝ }
+{
+    if rest % 2 == 1 {
+        return get(w, c, f) == 0;
+    }
+    true
+}
+
+// Whether the fields of the mask m are zero in cell c.
+pub fn blank(w: &[u64], m: u64, c: u64) -> bool
+    ensures { λ r. ⌜ r ≡ blankTest (now (w .entry)) m c ⌝ }
+{
+    let mut f: u64 = 0;
+    let mut rest = m;
+    while f < 8 {
+        if !clean(w, c, f, rest) {
+            return false;
+        }
+        rest = rest / 2;
+        f += 1;
+    }
+    true
+}
+
+// Whether the entry in cell c has a ticket at most its order number, and that below the counter.
+fn numbered(w: &[u64], counter: u64, c: u64) -> bool
+    ensures { λ r. ⌜ r ≡ numberedTest (now (w .entry)) counter c ⌝ }
+{
+    let order = get(w, c, 1);
+    if get(w, c, 0) <= order {
+        return order < counter;
+    }
+    false
+}
+
+// Whether cell c, taken for one in use, keeps to the rules of an entry.
+pub fn entry_sound(w: &[u64], counter: u64, used: u64, c: u64) -> bool
+    ensures { λ r. ⌜ r ≡ numberedTest (now (w .entry)) counter c && blankTest (now (w .entry)) used c ⌝ }
+{
+    if numbered(w, counter, c) {
+        return blank(w, used, c);
+    }
+    false
+}
