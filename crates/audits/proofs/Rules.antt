@@ -10,6 +10,7 @@ use lib.Dec.{leb, ltb, eqb}
 use borrow.Author.Tests.{leb-true, le-leb, ltb-true, lt-ltb, le-ltb, eqb-true, eq-eqb, not-true, not-false}
 use Rattle.cells.proofs.Cases.{test, same?, atMost?, clash, and-true, or-true}
 use Rattle.audits.proofs.Below.{below-each, each-below}
+use Rattle.cells.proofs.Used.{in-use-free, free-not-used}
 use Rattle.cells.proofs.Lists.{times-here, times-past, times-append}
 use Rattle.cells.specs.Lists.{times}
 use Rattle.cells.specs.Words.{word}
@@ -35,18 +36,10 @@ module _ (w : List ℕ) where
       (λ t. unfold fieldTest in rw (t, eq-eqb (word w c f) 0 (h f k t)))
       (λ t. unfold fieldTest in rw t))
 
-  -- A cell is in use or free.
-  used-not-free : (c : ℕ) → inUse w c ≡ true → isFree w c ≡ false
-  unfolding inUse
-  used-not-free c e = not-true (isFree w c) e
-
+  -- A cell that is not in use is free.
   not-used-free : (c : ℕ) → inUse w c ≡ false → isFree w c ≡ true
   unfolding inUse
   not-used-free c e = not-false (isFree w c) e
-
-  free-not-used : (c : ℕ) → isFree w c ≡ true → inUse w c ≡ false
-  unfolding inUse
-  free-not-used c e = rw e
 
   -- The rules of a cell, by the test of an entry, and by that of a free cell.
   test-rule : (counter used free c : ℕ) → usedTest w counter used c ≡ true → (isFree w c ≡ true → blankTest w free c ≡ true)
@@ -55,7 +48,7 @@ module _ (w : List ℕ) where
   test-rule counter used free c u b =
       test (inUse w c)
       (λ e.
-      let parts = and-true (numberedTest w counter c) (blankTest w used c) (rw (used-not-free c e) at u) in
+      let parts = and-true (numberedTest w counter c) (blankTest w used c) (rw (in-use-free w c e) at u) in
       let numbers = and-true (leb (word w c 0) (word w c 1)) (ltb (word w c 1) counter) (parts .0) in
       record {
         ticket = λ h. leb-true (word w c 0) (word w c 1) (numbers .0);
@@ -74,13 +67,13 @@ module _ (w : List ℕ) where
   rule-used counter used free c r =
       test (inUse w c)
       (λ e.
-      rw (used-not-free c e)
+      rw (in-use-free w c e)
       (rw (le-leb (word w c 0) (word w c 1) (r .ticket e), lt-ltb (word w c 1) counter (r .order e))
       (each-blank used c (λ f k i. r .blank f k (rw e i)))))
       (λ e. rw (not-used-free c e))
 
   rule-free : (counter used free c : ℕ) → CellRule w counter used free c → isFree w c ≡ true → blankTest w free c ≡ true
-  rule-free counter used free c r e = each-blank free c (λ f k i. r .blank f k (rw (free-not-used c e) i))
+  rule-free counter used free c r e = each-blank free c (λ f k i. r .blank f k (rw (free-not-used w c e) i))
 
   -- The test of all entries and that of all free cells decide the rules of each cell.
   pub cells-rules : (n counter used free : ℕ)

@@ -1,26 +1,29 @@
 -- The tests of the queue's audit decide its rules.
 -- Assumes nothing.
-use Prim.Native.Nat.{ℕ, _≤_, _<_}
+use Prim.Native.Nat.{ℕ, _+_, _-_, _≤_, _<_}
 use native.Mathlib.Omega.{arith}
-use mathlib.Core.Bool.{Bool, true, false, not, _&&_}
+use mathlib.Core.Bool.{Bool, true, false, cond, not, _&&_}
 use mathlib.Core.List.{List}
 use mathlib.Core.Logic.{_↔_}
-use mathlib.Core.Path.{_≡_, refl, sym, _∙_}
+use mathlib.Core.Path.{_≡_, refl, sym, ap, _∙_}
 use lib.Dec.{leb, ltb, eqb}
 use borrow.Author.Tests.{leb-true, le-leb, ltb-true, lt-ltb, le-ltb, eqb-true, eq-eqb, ne-eqb, not-true}
 use Rattle.cells.specs.Words.{word}
-use Rattle.cells.specs.Stack.{isFree}
-use Rattle.cells.specs.Rules.{inUse, Sound}
+use Rattle.cells.specs.Stack.{isFree, frees}
+use Rattle.cells.specs.Rules.{Sound}
 use Rattle.audits.specs.AuditTests.{allBelow, sharedTest}
-use Rattle.cells.proofs.Cases.{test, same?, atMost?, clash, and-true, or-true}
+use Rattle.audits.specs.Verdicts.{Judged}
+use Rattle.audits.specs.declared.audit.Verdict.{Verdict}
+use Rattle.cells.proofs.Cases.{same?, atMost?, clash, and-true, or-true}
 use Rattle.audits.proofs.Below.{below-each, each-below}
 use Rattle.audits.proofs.Audits.{shared-decides}
 use Rattle.cells.proofs.Used.{in-use-free, not-free-used}
 use Rattle.meaning.specs.Heap.{parent}
 use Rattle.heap.specs.Seats.{ranked, seatAt}
 use Rattle.queue.specs.Rules.{usedMask, freeMask, SeatRule, QueueSound}
-use Rattle.queue.specs.AuditTests.{headTest, behindTest, seatTest, placedTest, beyondTest, tableTest, auditTest}
+use Rattle.queue.specs.AuditTests.{headTest, behindTest, seatTest, countTest, beyondTest, auditTest}
 use Rattle.queue.specs.declared.head.Head.{Head}
+use Rattle.queue.proofs.Counted.{each-sits, sits-count}
 
 -- What must pass and fails rules out what it must pass for.
 refuted : {Q : Type 0} (r : Bool) → (Q → r ≡ true) → r ≡ false → (false ≡ true) ↔ Q
@@ -93,24 +96,6 @@ module _ (w : List ℕ) where
       rw (lt-ltb c (h .store .cells) (r .inside), in-use-free w c (r .used), eq-eqb (word w c 5) p (r .known))
       (true-behind (h .arity) p (r .behind))
 
-  -- Where the test of a cell's place passes, its rule holds.
-  placed-rule : (count c : ℕ) → placedTest w count c ≡ true → inUse w c ≡ true → (word w c 5 < count) × (word w (word w c 5) 6 ≡ c)
-  unfolding placedTest
-  placed-rule count c t u =
-      let both = and-true (ltb (word w c 5) count) (eqb (word w (word w c 5) 6) c) (rw (in-use-free w c u) at t) in
-      (ltb-true _ _ (both .0), eqb-true _ _ (both .1))
-
-  -- A cell that keeps its rule passes.
-  rule-placed : (count c : ℕ) → (inUse w c ≡ true → word w c 5 < count) → (inUse w c ≡ true → word w (word w c 5) 6 ≡ c)
-      → placedTest w count c ≡ true
-  unfolding placedTest
-  rule-placed count c f g =
-      test (isFree w c)
-      (λ t. rw t)
-      (λ t.
-      let u = not-free-used w c t in
-      rw t (rw (lt-ltb (word w c 5) count (f u), eq-eqb (word w (word w c 5) 6) c (g u))))
-
   -- Where the test of the table beyond the filled positions passes, that rule holds.
   beyond-rule : (count p : ℕ) → beyondTest w count p ≡ true → count ≤ p → word w p 6 ≡ 0
   unfolding beyondTest
@@ -129,9 +114,9 @@ module _ (w : List ℕ) (h : Head) where
   abbrev seatsTest : Bool
   seatsTest = allBelow (h .count) (seatTest w (h .arity) (h .store .cells))
 
-  -- The test of the walk of cells.
-  abbrev tablesTest : Bool
-  tablesTest = allBelow (h .store .cells) (tableTest w (h .count))
+  -- The test of the table beyond them.
+  abbrev beyondAll : Bool
+  beyondAll = allBelow (h .store .cells) (beyondTest w (h .count))
 
   -- A sound head passes.
   sound-head : QueueSound w h → headTest h ≡ true
@@ -142,18 +127,19 @@ module _ (w : List ℕ) (h : Head) where
   sound-seats q =
       each-below (seatTest w (h .arity) (h .store .cells)) (h .count) (λ p l. rule-seat w h p (q .seats p l))
 
-  -- Its cells pass.
-  sound-tables : QueueSound w h → tablesTest ≡ true
-  unfolding tableTest
-  sound-tables q =
-      each-below (tableTest w (h .count)) (h .store .cells)
-      (λ c l.
-      rw (rule-placed w (h .count) c (q .placed c l) (q .found c l)) (rule-beyond w (h .count) c (λ k. q .beyond c k l)))
+  -- There are as many positions as entries.
+  sound-count : QueueSound w h → countTest w h ≡ true
+  unfolding countTest
+  sound-count q = eq-eqb _ _ (sits-count w h (q .seats) (q .placed) (q .found))
+
+  -- The table beyond them passes.
+  sound-beyond : QueueSound w h → beyondAll ≡ true
+  sound-beyond q = each-below (beyondTest w (h .count)) (h .store .cells) (λ p l. rule-beyond w (h .count) p (λ k. q .beyond p k l))
 
   -- What passes all tests is sound.
-  tests-sound : headTest h ≡ true → Sound w (h .store) usedMask freeMask → seatsTest ≡ true → tablesTest ≡ true → QueueSound w h
-  unfolding tableTest
-  tests-sound a s b t =
+  tests-sound : headTest h ≡ true → Sound w (h .store) usedMask freeMask → countTest w h ≡ true → seatsTest ≡ true → beyondAll ≡ true → QueueSound w h
+  unfolding countTest
+  tests-sound a s n b t =
       let head : HeadRule h = head-rule h a in
       record {
         shared = s;
@@ -161,16 +147,14 @@ module _ (w : List ℕ) (h : Head) where
         some = head .some;
         most = head .most;
         fits = head .fits;
-        seats = λ p l. seat-rule w h p (below-each (seatTest w (h .arity) (h .store .cells)) (h .count) b p l);
-        placed = λ c l u. placed-rule w (h .count) c (cell c l .0) u .0;
-        found = λ c l u. placed-rule w (h .count) c (cell c l .0) u .1;
-        beyond = λ p l k. beyond-rule w (h .count) p (cell p k .1) l;
+        seats = seats;
+        placed = λ c l u. each-sits w h seats (eqb-true _ _ n) c l u .low;
+        found = λ c l u. each-sits w h seats (eqb-true _ _ n) c l u .here;
+        beyond = λ p l k. beyond-rule w (h .count) p (below-each (beyondTest w (h .count)) (h .store .cells) t p k) l;
       }
     where
-      cell : (c : ℕ) → c < h .store .cells → (placedTest w (h .count) c ≡ true) × (beyondTest w (h .count) c ≡ true)
-      cell c l =
-          and-true (placedTest w (h .count) c) (beyondTest w (h .count) c)
-          (below-each (tableTest w (h .count)) (h .store .cells) t c l)
+      seats : (p : ℕ) → p < h .count → SeatRule w h p
+      seats p l = seat-rule w h p (below-each (seatTest w (h .arity) (h .store .cells)) (h .count) b p l)
 
   -- All tests together decide soundness.
   pub audit-decides : (auditTest w h ≡ true) ↔ QueueSound w h
@@ -180,35 +164,54 @@ module _ (w : List ℕ) (h : Head) where
       shared : Bool
       shared = sharedTest w (h .store) usedMask freeMask
 
-      to : headTest h && (shared && (seatsTest && tablesTest)) ≡ true → QueueSound w h
+      to : headTest h && (shared && (countTest w h && (seatsTest && beyondAll))) ≡ true → QueueSound w h
       to t =
-          let one = and-true (headTest h) (shared && (seatsTest && tablesTest)) t in
-          let two = and-true shared (seatsTest && tablesTest) (one .1) in
-          let three = and-true seatsTest tablesTest (two .1) in
-          tests-sound (one .0) (shared-decides w (h .store) usedMask freeMask .0 (two .0)) (three .0) (three .1)
+          let one = and-true (headTest h) (shared && (countTest w h && (seatsTest && beyondAll))) t in
+          let two = and-true shared (countTest w h && (seatsTest && beyondAll)) (one .1) in
+          let three = and-true (countTest w h) (seatsTest && beyondAll) (two .1) in
+          let four = and-true seatsTest beyondAll (three .1) in
+          tests-sound (one .0) (shared-decides w (h .store) usedMask freeMask .0 (two .0)) (three .0) (four .0) (four .1)
 
-      from : QueueSound w h → headTest h && (shared && (seatsTest && tablesTest)) ≡ true
+      from : QueueSound w h → headTest h && (shared && (countTest w h && (seatsTest && beyondAll))) ≡ true
       from q =
           let passed : shared ≡ true = shared-decides w (h .store) usedMask freeMask .1 (q .shared) in
-          rw (sound-head q, passed, sound-seats q) (sound-tables q)
+          rw (sound-head q, passed, sound-count q, sound-seats q) (sound-beyond q)
 
   -- The code's ways out. Where the head fails it is not sound.
   pub fails-head : (r : Bool) → r ≡ headTest h → r ≡ false → (false ≡ true) ↔ QueueSound w h
   fails-head r e = refuted r (λ q. e ∙ sound-head q)
 
-  -- Where the shared rules fail it is not sound.
-  pub fails-shared : (r : Bool) → (r ≡ true) ↔ Sound w (h .store) usedMask freeMask → r ≡ false → (false ≡ true) ↔ QueueSound w h
-  fails-shared r e = refuted r (λ q. e .1 (q .shared))
+  -- After the shared part.
+  module _ (v : Verdict) (judged : Judged w (h .store) usedMask freeMask v) where
+    -- Where the shared rules fail it is not sound.
+    pub fails-shared : v .sound ≡ false → (false ≡ true) ↔ QueueSound w h
+    fails-shared e = refuted (v .sound) (λ q. judged .exact .1 (q .shared)) e
+
+    module _ (keeps : v .sound ≡ true) where
+      -- The free cells are counted.
+      free-counted : v .free ≡ frees w (h .store .cells)
+      free-counted = judged .count ∙ ap (λ (b : Bool). cond b (frees w (h .store .cells)) 0) keeps
+
+      -- Where there are more or fewer positions than entries it is not sound.
+      pub fails-count : (h .store .cells - h .count ≡ v .free → ⊥) → (false ≡ true) ↔ QueueSound w h
+      unfolding countTest
+      fails-count n = (
+        λ z. clash z refl,
+        λ q. absurd (n (omega (arith, eqb-true (h .count + frees w (h .store .cells)) (h .store .cells) (sound-count q), free-counted, q .fits))),
+      )
+
+      module _ (a : Bool) (head : a ≡ headTest h) (fits : a ≡ true) (same : h .store .cells - h .count ≡ v .free) where
+        count-passes : countTest w h ≡ true
+        unfolding countTest
+        count-passes =
+            eq-eqb (h .count + frees w (h .store .cells)) (h .store .cells)
+            (omega (arith, same, free-counted, head-rule h (sym head ∙ fits) .fits))
+
+        -- What passes the others is sound exactly if it passes the last.
+        pub passes-all : (b r : Bool) → b ≡ seatsTest → b ≡ true → r ≡ beyondAll → (r ≡ true) ↔ QueueSound w h
+        passes-all b r eb b′ er =
+            (λ t. tests-sound (sym head ∙ fits) (judged .exact .0 keeps) count-passes (sym eb ∙ b′) (sym er ∙ t), λ q. er ∙ sound-beyond q)
 
   -- Where a position fails it is not sound.
   pub fails-seats : (r : Bool) → r ≡ seatsTest → r ≡ false → (false ≡ true) ↔ QueueSound w h
   fails-seats r e = refuted r (λ q. e ∙ sound-seats q)
-
-  -- What passes the first three is sound exactly if it passes the last.
-  pub passes-all : (a s b r : Bool) → a ≡ headTest h → a ≡ true → (s ≡ true) ↔ Sound w (h .store) usedMask freeMask → s ≡ true
-      → b ≡ seatsTest
-      → b ≡ true
-      → r ≡ tablesTest
-      → (r ≡ true) ↔ QueueSound w h
-  passes-all a s b r ea a′ es s′ eb b′ er =
-      (λ t. tests-sound (sym ea ∙ a′) (es .0 s′) (sym eb ∙ b′) (sym er ∙ t), λ q. er ∙ sound-tables q)

@@ -18,6 +18,8 @@ pub mod ShownSound
 pub mod SoundShown
 pub mod OneMemory
 pub mod AuditSteps
+pub mod Families
+pub mod Counted
 pub mod Audits
 pub mod Checking
 pub mod Outcomes
