@@ -2,6 +2,7 @@
 // benchmark of the audits link them. A harness, so that its contracts are modest: what it is proved to do is to end, and to stay within the lent slices.
 // What the calls do is promised where they stand.
 
+pub mod decided;
 mod lent;
 pub mod queue_door;
 mod queue_told;
