@@ -1,11 +1,11 @@
 -- Laws of a test at each number below a bound.
 -- Assumes nothing.
-use Prim.Native.Nat.{ℕ, zero, suc, _+_, _<_}
+use Prim.Native.Nat.{ℕ, zero, suc, _+_, _≤_, _<_}
 use native.Mathlib.Omega.{arith}
 use native.Mathlib.Numerals.{add-one}
 use mathlib.Core.Bool.{Bool, true, false}
 use mathlib.Core.Path.{_≡_, refl, sym}
-use Rattle.cells.proofs.Cases.{same?, and-true, and-false}
+use Rattle.cells.proofs.Cases.{test, same?, clash, and-true, and-false}
 use Rattle.audits.specs.AuditTests.{allBelow}
 
 module _ (p : ℕ → Bool) where
@@ -39,3 +39,7 @@ module _ (p : ℕ → Bool) where
   unfolding allBelow
   each-below zero h = refl
   each-below (suc n) h = rw (each-below n (λ i k. h i (omega arith))) (h n (omega arith))
+
+  -- What fails below a bound fails below a higher one.
+  pub below-short : (k n : ℕ) → k ≤ n → allBelow k p ≡ false → allBelow n p ≡ false
+  below-short k n h e = test (allBelow n p) (λ t. clash (each-below k (λ i l. below-each n t i (omega arith))) e) (λ f. f)

@@ -1,7 +1,7 @@
 -- What the audit's small functions find, as equations of their tests: one law for each way out of a function.
 -- Assumes nothing.
 use Prim.Native.Nat.{ℕ, zero, suc, _+_, _/_, _%_, _^_, _≤_, _<_}
-use native.Mathlib.Nat.{div-div-eq-div-mul, pow-suc}
+use native.Mathlib.Nat.{div-one, div-div-eq-div-mul, pow-suc}
 use native.Mathlib.Numerals.{add-one}
 use mathlib.Core.Bool.{Bool, true, false, cond, not, _&&_, _||_}
 use mathlib.Core.List.{List, [], _∷_, _++_, append-nil, append-assoc}
@@ -12,7 +12,7 @@ use lib.ListN.{length, getD, drop, set, length-append, length-drop}
 use lib.Seq.{drop-cons, set-at}
 use borrow.Author.Tests.{le-leb, lt-leb, eq-eqb, ne-eqb}
 use Rattle.cells.proofs.Cases.{and-false}
-use Rattle.audits.proofs.Below.{below-fails}
+use Rattle.audits.proofs.Below.{below-step, below-fails, below-end, below-short, each-below}
 use Rattle.cells.specs.declared.store.Store.{Store}
 use Rattle.cells.specs.Words.{word}
 use Rattle.cells.specs.Rules.{inUse, inMask}
@@ -28,21 +28,60 @@ module _ (w : List ℕ) where
   numbered-no counter c t o p q h = rw (← p, ← q) (rw (lt-leb t o h))
 
   -- The next digit of a mask.
-  pub mask-next : (m f : ℕ) → m / 2 ^ f / 2 ≡ m / 2 ^ (f + 1)
+  mask-next : (m f : ℕ) → m / 2 ^ f / 2 ≡ m / 2 ^ (f + 1)
   mask-next m f = rw (add-one, pow-suc) (div-div-eq-div-mul m (2 ^ f) 2)
 
   -- A field as `clean` tests it.
-  pub field-is : (m c f rest : ℕ) (r : Bool) → rest ≡ m / 2 ^ f → r ≡ not (eqb (rest % 2) 1) || eqb (word w c f) 0 → fieldTest w m c f ≡ r
+  field-is : (m c f rest : ℕ) (r : Bool) → rest ≡ m / 2 ^ f → r ≡ not (eqb (rest % 2) 1) || eqb (word w c f) 0 → fieldTest w m c f ≡ r
   unfolding fieldTest inMask
   field-is m c f rest r p q = rw (← p) (sym q)
 
-  pub blank-no : (m c f : ℕ) → f < 8 → fieldTest w m c f ≡ false → false ≡ blankTest w m c
-  unfolding blankTest
-  blank-no m c f h e = sym (below-fails (fieldTest w m c) 8 f h e)
+  -- The first four fields: none is in the mask, or each that is passes.
+  pub lower-none : (m c : ℕ) → m % 16 ≡ 0 → true ≡ allBelow 4 (fieldTest w m c)
+  unfolding fieldTest inMask
+  lower-none m c e = sym (each-below (fieldTest w m c) 4 each)
+    where
+      out : (f : ℕ) → m / 2 ^ f % 2 ≡ 0 → fieldTest w m c f ≡ true
+      out f h = rw (ne-eqb (m / 2 ^ f % 2) 1 (λ q. omega (arith, q, h)))
 
-  pub blank-yes : (m c f : ℕ) → f ≡ 8 → allBelow f (fieldTest w m c) ≡ true → true ≡ blankTest w m c
+      each : (f : ℕ) → f < 4 → fieldTest w m c f ≡ true
+      each zero h = out 0 (omega arith)
+      each (suc zero) h = out 1 (omega arith)
+      each (suc (suc zero)) h = out 2 (omega arith)
+      each (suc (suc (suc zero))) h = out 3 (omega arith)
+      each (suc (suc (suc (suc f)))) h = absurd (omega arith)
+
+  -- All eight fields.
+  pub blank-no : (m c : ℕ) (r : Bool) → r ≡ allBelow 4 (fieldTest w m c) → r ≡ false → false ≡ blankTest w m c
   unfolding blankTest
-  blank-yes m c f h e = sym (rw h at e)
+  blank-no m c r e f = sym (below-short (fieldTest w m c) 4 8 (omega arith) (sym e ∙ f))
+
+-- The fields below f that are in the mask m are zero in cell c, and `rest` is the mask without their digits.
+pub record Clear (w : List ℕ) (m c f rest : ℕ) : Type 0 where
+  pub digits : rest ≡ m / 2 ^ f
+  pub passed : allBelow f (fieldTest w m c) ≡ true
+
+module _ (w : List ℕ) (m c : ℕ) where
+  pub clear-none : Clear w m c 0 m
+  unfolding allBelow
+  clear-none = record { digits = sym (div-one m); passed = refl }
+
+  pub clear-half : allBelow 4 (fieldTest w m c) ≡ true → Clear w m c 4 (m / 16)
+  clear-half e = record { digits = refl; passed = e }
+
+  module _ (f rest : ℕ) (at : Clear w m c f rest) (r : Bool) (told : r ≡ not (eqb (rest % 2) 1) || eqb (word w c f) 0) where
+    pub clear-next : r ≡ true → Clear w m c (f + 1) (rest / 2)
+    clear-next e =
+        record {
+          digits = ap (λ (x : ℕ). x / 2) (at .digits) ∙ mask-next w m f;
+          passed = below-step (fieldTest w m c) f (at .passed) (field-is w m c f rest r (at .digits) told ∙ e);
+        }
+
+    pub clear-fails : (k : ℕ) → f < k → r ≡ false → false ≡ allBelow k (fieldTest w m c)
+    clear-fails k h e = sym (below-fails (fieldTest w m c) k f h (field-is w m c f rest r (at .digits) told ∙ e))
+
+  pub clear-all : (f rest k : ℕ) → f ≡ k → Clear w m c f rest → true ≡ allBelow k (fieldTest w m c)
+  clear-all f rest k h at = below-end (fieldTest w m c) f k h (at .passed)
 
 -- A cell by its ticket word.
 pub in-use : (w : List ℕ) (c t : ℕ) → t ≡ word w c 0 → (t ≡ 0 → ⊥) → inUse w c ≡ true

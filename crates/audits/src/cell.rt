@@ -2,11 +2,11 @@
 
 use cells::words::get;
 ghost use Prim.Native.Nat.{_%_};
-ghost use mathlib.Core.Bool.{_&&_, _||_, not};
+ghost use mathlib.Core.Bool.{true, _&&_, _||_, not};
 ghost use mathlib.Core.Path.{_≡_};
 ghost use lib.Dec.{eqb};
 ghost use Rattle.cells.specs.Words.{word};
-ghost use Rattle.audits.specs.AuditTests.{blankTest, numberedTest};
+ghost use Rattle.audits.specs.AuditTests.{allBelow, fieldTest, blankTest, numberedTest};
 
 // Whether field f is not in the mask, whose digit f is the lowest of `rest`, or zero in cell c.
 fn clean(w: &[u64], c: u64, f: u64, rest: u64) -> bool
@@ -18,12 +18,32 @@ fn clean(w: &[u64], c: u64, f: u64, rest: u64) -> bool
     true
 }
 
-// Whether the fields of the mask m are zero in cell c.
-pub fn blank(w: &[u64], m: u64, c: u64) -> bool
-    ensures { λ r. ⌜ r ≡ blankTest (now (w .entry)) m c ⌝ }
+// Whether those of the first four fields that are in the mask m are zero in cell c. An entry uses all four, so its mask has none of them: one look tells.
+fn lower_blank(w: &[u64], m: u64, c: u64) -> bool
+    ensures { λ r. ⌜ r ≡ allBelow 4 (fieldTest (now (w .entry)) m c) ⌝ }
 {
+    if m % 16 == 0 {
+        return true;
+    }
     let mut f: u64 = 0;
     let mut rest = m;
+    while f < 4 {
+        if !clean(w, c, f, rest) {
+            return false;
+        }
+        rest = rest / 2;
+        f += 1;
+    }
+    true
+}
+
+// Whether those of the last four fields that are in the mask m are zero in cell c, where those of the first four are.
+fn upper_blank(w: &[u64], m: u64, c: u64) -> bool
+    requires { ⌜ allBelow 4 (fieldTest (now w) m c) ≡ true ⌝ }
+    ensures { λ r. ⌜ r ≡ blankTest (now (w .entry)) m c ⌝ }
+{
+    let mut f: u64 = 4;
+    let mut rest = m / 16;
     while f < 8 {
         if !clean(w, c, f, rest) {
             return false;
@@ -32,6 +52,16 @@ pub fn blank(w: &[u64], m: u64, c: u64) -> bool
         f += 1;
     }
     true
+}
+
+// Whether the fields of the mask m are zero in cell c.
+pub fn blank(w: &[u64], m: u64, c: u64) -> bool
+    ensures { λ r. ⌜ r ≡ blankTest (now (w .entry)) m c ⌝ }
+{
+    if lower_blank(w, m, c) {
+        return upper_blank(w, m, c);
+    }
+    false
 }
 
 // Whether the entry in cell c has a ticket at most its order number, and that below the counter.

@@ -50,7 +50,15 @@ fn visit(
 }
 
 // Goes over the first n cells with tables that are empty, and four steps for each cell: more would cost what a sort costs.
-fn sweep(w: &[u64], n: u64, counter: u64, used: u64, k: Layout, t: &mut [u16], u: &mut [u16]) -> Findings
+fn sweep(
+    w: &[u64],
+    n: u64,
+    counter: u64,
+    used: u64,
+    k: Layout,
+    t: &mut [u16],
+    u: &mut [u16],
+) -> Findings
     requires { ⌜ n ≤ 4096 ⌝ }
     ensures { λ r. ⌜ Swept (now (w .entry)) n counter used r ⌝ }
 {

@@ -128,10 +128,10 @@ module _ (w : List ℕ) (h : Head) (seats : (p : ℕ) → p < h .count → SeatR
   unfolding bit
   sits-count placed found =
       omega (
-      arith,
-      bits w (h .store .cells),
-      counted,
-      sumBelow-same (λ (c : ℕ). times c (seated w (h .count))) (bit w) (h .store .cells) (λ c l. all c l),
+        arith,
+        bits w (h .store .cells),
+        counted,
+        sumBelow-same (λ (c : ℕ). times c (seated w (h .count))) (bit w) (h .store .cells) (λ c l. all c l),
       )
     where
       all : (c : ℕ) → c < h .store .cells → times c (seated w (h .count)) ≡ bit w c

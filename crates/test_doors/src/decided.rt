@@ -18,6 +18,11 @@ fn told(f: Findings) -> u64 {
 // One pass over the cells, numbers evenly spread (`scattered` 0) or scattered as well: the cells and the counter as two numbers, the mask of the fields that
 // an entry leaves unused.
 #[no_mangle]
-pub extern "C" fn wastelquib_test_tables(w: &[u64], numbers: &[u64], used: u64, scattered: u64) -> u64 {
+pub extern "C" fn wastelquib_test_tables(
+    w: &[u64],
+    numbers: &[u64],
+    used: u64,
+    scattered: u64,
+) -> u64 {
     told(swept(w, read(numbers, 0), read(numbers, 1), used, scattered != 0))
 }

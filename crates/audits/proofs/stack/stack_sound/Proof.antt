@@ -26,7 +26,7 @@ stands-requires : tie.Need-stands-requires Inv-loop μ-loop
 stands-requires c κs = search needs
 
 returns : tie.Need-returns Inv-loop μ-loop
-returns c = 
+returns c =
     sym
     (c .before .before .before .loop .inv
     ∙ walks-stuck _ _ _ _ (search needs) (sym (c .before .stands .ensures) ∙ not-true _ (c .if1 .taken)))
@@ -41,7 +41,7 @@ loop-less : tie.Need-loop-less Inv-loop μ-loop
 loop-less c = search needs
 
 loop-again : tie.Need-loop-again Inv-loop μ-loop
-loop-again c = 
+loop-again c =
     rw (c .get .ensures)
     (c .before .before .before .before .loop .inv
     ∙ walks-on _ _ _ _ (search needs) (sym (c .before .before .stands .ensures) ∙ not-false _ (c .before .if1 .left)))

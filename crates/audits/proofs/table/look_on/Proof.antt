@@ -46,7 +46,7 @@ same-length-2 : tie.Need-same-length-2 Inv-loop μ-loop
 same-length-2 c = simp length-set (ap length (c .before .before .before .before .loop .inv .0 .same))
 
 returns-2 : tie.Need-returns-2 Inv-loop μ-loop
-returns-2 c = 
+returns-2 c =
     let at = c .before .before .before .before .loop .inv in
     looking-lands _ _ _ _ _ _ _ _ _ _ (at .0) (at .1) (search needs) (search needs)
 
