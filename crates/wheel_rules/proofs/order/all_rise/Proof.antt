@@ -1,4 +1,4 @@
--- `wheel_rules::audit::all_rise` meets its contract. The invariant: what is asked of the whole list is what is asked of it from i - 1 on.
+-- `wheel_rules::order::all_rise` meets its contract. The invariant: what is asked of the whole list is what is asked of it from i - 1 on.
 -- Assumes nothing.
 use Prim.Native.Nat.{_-_, _<_}
 use native.Mathlib.Omega.{arith}
@@ -8,8 +8,8 @@ use borrow.Author.Needs.{needs}
 use borrow.Author.Tests.{not-true, not-false}
 use Rattle.wheel_rules.specs.AuditTests.{neighboursRise}
 use Rattle.wheel_rules.proofs.AuditSteps.{rise-fails, rise-step, rise-end}
-use Rattle.wheel_rules.proofs.audit.all_rise.Statement.{statement}
-use Rattle.wheel_rules.proofs.audit.all_rise.Tie as tie
+use Rattle.wheel_rules.proofs.order.all_rise.Statement.{statement}
+use Rattle.wheel_rules.proofs.order.all_rise.Tie as tie
 
 abbrev Inv-loop : tie.InvT-loop
 Inv-loop w a i₀ i = (0 < i) × (neighboursRise w (drop (i - 1) a) ≡ neighboursRise w a)

@@ -1,9 +1,9 @@
--- `wheel_rules::audit::pair_rises` meets its contract.
+-- `wheel_rules::order::pair_rises` meets its contract.
 -- Assumes nothing.
 use borrow.Author.Needs.{needs}
 use Rattle.wheel_rules.proofs.AuditSteps.{rise-equal, rise-other}
-use Rattle.wheel_rules.proofs.audit.pair_rises.Statement.{statement}
-use Rattle.wheel_rules.proofs.audit.pair_rises.Tie as tie
+use Rattle.wheel_rules.proofs.order.pair_rises.Statement.{statement}
+use Rattle.wheel_rules.proofs.order.pair_rises.Tie as tie
 
 get-requires : tie.Need-get-requires
 get-requires c κs = search needs

@@ -1,9 +1,9 @@
--- `wheel_rules::audit::ends_at` meets its contract.
+-- `wheel_rules::walk::ends_at` meets its contract.
 -- Assumes nothing.
 use borrow.Author.Needs.{needs}
 use Rattle.wheel_rules.proofs.AuditSteps.{ends-due, ends-slot}
-use Rattle.wheel_rules.proofs.audit.ends_at.Statement.{statement}
-use Rattle.wheel_rules.proofs.audit.ends_at.Tie as tie
+use Rattle.wheel_rules.proofs.walk.ends_at.Statement.{statement}
+use Rattle.wheel_rules.proofs.walk.ends_at.Tie as tie
 
 returns : tie.Need-returns
 returns c = ends-due _ _ _ _ (search needs)
