@@ -5,3 +5,4 @@ pub mod Levels
 pub mod Wakes
 pub mod Counts
 pub mod Cascades
+pub mod Spans

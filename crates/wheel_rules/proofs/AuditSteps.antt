@@ -2,45 +2,49 @@
 -- Assumes nothing.
 use Prim.Native.Nat.{ℕ, _+_, _-_, _/_, _%_, _^_, _≤_, _<_}
 use native.Mathlib.Omega.{arith}
-use mathlib.Core.Bool.{Bool, true, false, not, _&&_}
+use mathlib.Core.Bool.{Bool, true, false, not}
 use mathlib.Core.List.{List, [], _∷_}
-use mathlib.Core.Path.{_≡_, refl, sym, _∙_}
+use mathlib.Core.Path.{_≡_, refl, sym, ap, _∙_}
 use lib.Dec.{leb, ltb, eqb}
-use lib.ListN.{length, getD, drop, length-drop}
+use lib.ListN.{length, getD, take, drop, length-drop}
 use lib.Seq.{drop-cons}
-use borrow.Author.Tests.{le-leb, lt-leb, lt-ltb, le-ltb, eq-eqb, ne-eqb}
+use borrow.Author.Tests.{le-leb, lt-ltb, le-ltb, eq-eqb, ne-eqb}
 use Rattle.cells.specs.Words.{word}
-use Rattle.cells.specs.Stack.{isFree}
+use Rattle.cells.specs.Stack.{noCell, isFree, frees}
+use Rattle.audits.specs.AuditTests.{allBelow}
+use Rattle.audits.specs.Sorted.{sortedList}
 use Rattle.audits.proofs.CellOrder.{pairs}
-use Rattle.places.specs.Ticks.{due, lastTick}
+use Rattle.audits.proofs.CellSort.{list-fits}
+use Rattle.places.specs.Ticks.{lastTick}
 use Rattle.slots.specs.Rings.{lent, endsOf, isMarked, slotMarked}
 use Rattle.slots.specs.declared.ring.Ends.{Ends}
-use Rattle.dial.specs.Turns.{listOf}
-use Rattle.wheel_rules.specs.AuditTests.{dialTest, deadlineTest, arraysTest, markTest, standTest, endsIn, riseTest, neighboursRise}
+use Rattle.wheel_rules.specs.AuditTests.{
+  dialTest,
+  arraysTest,
+  markTest,
+  standTest,
+  endsIn,
+  noted,
+  listTest,
+  walkTest,
+  riseTest,
+  neighboursRise,
+  orderTest,
+  sortTest,
+  listsTest,
+  WalkFound,
+}
+use Rattle.wheel_rules.specs.Spans.{inSpan, SpanOf}
+use Rattle.wheel_rules.specs.declared.span.Span.{Span}
+use Rattle.wheel_rules.specs.declared.walk.Noted.{Noted}
 use Rattle.dial.specs.declared.state.Dial.{Dial}
+use Rattle.wheel_rules.proofs.Noting.{found-few, walk-many, same-front}
+use Rattle.wheel_rules.proofs.Climbing.{climbs-order}
 
 -- The counter has 64 bits, so that the clock decides.
 pub dial-clock : (d : Dial) → d .store .counter ≤ 18446744073709551615 → leb (d .clock) 68719476735 ≡ dialTest d
 unfolding dialTest lastTick
 dial-clock d h = rw (le-leb _ _ h)
-
--- The ways out of a cell that is free or not.
-module _ (w : List ℕ) (t c : ℕ) (f : Bool) (free : f ≡ isFree w c) where
-  -- The cell is free.
-  pub deadline-free : f ≡ true → true ≡ deadlineTest w t c
-  unfolding deadlineTest
-  deadline-free e = rw (sym free ∙ e)
-
-  module _ (used : f ≡ false) (x : ℕ) (deadline : x ≡ word w c 2) where
-    -- It is not due before the clock, so that the last tick decides.
-    pub deadline-last : t ≤ x → leb x 68719476735 ≡ deadlineTest w t c
-    unfolding deadlineTest lastTick
-    deadline-last h = rw (sym free ∙ used, ← deadline) (rw (le-leb t x h))
-
-    -- It is due before the clock.
-    pub deadline-early : x < t → false ≡ deadlineTest w t c
-    unfolding deadlineTest
-    deadline-early h = rw (sym free ∙ used, ← deadline) (rw (lt-leb t x h))
 
 -- The arrays, by the first that is wrong.
 module _ (first last marks : List ℕ) where
@@ -91,19 +95,11 @@ module _ (w : List ℕ) (n t i p c : ℕ) where
       unfolding standTest
       stand-other d = rw (lt-ltb c n inside, sym free ∙ used, ← back) (rw (ne-eqb b p d))
 
-      -- Its deadline decides.
-      pub stand-place : (x j : ℕ) → b ≡ p → x ≡ word w c 2 → j ≡ listOf t x → eqb j i ≡ standTest w n t i p c
+      -- Its deadline decides, by the ticks of the list.
+      pub stand-span : (x : ℕ) (s : Span) (r : Bool) → b ≡ p → x ≡ word w c 2 → r ≡ inSpan s x → SpanOf t i s → r ≡ standTest w n t i p c
       unfolding standTest
-      stand-place x j q y z =
-          rw (lt-ltb c n inside, sym free ∙ used, ← back) (rw (eq-eqb b p q, ← y) (rw z))
-
--- How a walk ends.
-pub end-some : (c p last : ℕ) → c ≡ 4096 → eqb p last ≡ (eqb c 4096 && eqb p last)
-end-some c p last e = rw (eq-eqb c 4096 e)
-
--- It is not at its end.
-pub end-none : (c p last : ℕ) → (c ≡ 4096 → ⊥) → false ≡ (eqb c 4096 && eqb p last)
-end-none c p last d = rw (ne-eqb c 4096 d)
+      stand-span x s r q y z h =
+          rw (lt-ltb c n inside, sym free ∙ used, ← back) (rw (eq-eqb b p q, ← y) (z ∙ h .exact x))
 
 -- The ends of a list.
 module _ (first last : List ℕ) (due : Ends) (i : ℕ) where
@@ -154,3 +150,70 @@ module _ (w a : List ℕ) (i : ℕ) (some : 0 < i) where
       short [] k = unfold neighboursRise in refl
       short (x ∷ []) k = unfold neighboursRise in refl
       short (x ∷ (y ∷ ys)) k = absurd (omega arith)
+
+-- The lists, by what a walk through them found.
+module _ (w : List ℕ) (n t : ℕ) (ends : ℕ → Ends) where
+  -- There are too many cells.
+  pub sorted-many : noCell < n → false ≡ sortTest w n t ends
+  unfolding sortTest
+  sorted-many h = rw (walk-many w n t ends h)
+
+  module _ (r : Noted) (d : WalkFound w n t ends r) where
+    -- A list is not sound, so that no sort is needed.
+    pub sorted-unsound : r .sound ≡ false → false ≡ sortTest w n t ends
+    unfolding sortTest
+    sorted-unsound s = rw (sym (d .sound) ∙ s)
+
+    -- They are sound, and sorted.
+    pub sorted-order : r .sound ≡ true → (a b : List ℕ) → n ≤ length a → n ≤ length b → take (r .count) a ≡ noted w n t ends 385
+        → (q : Bool)
+        → q ≡ neighboursRise w (sortedList w 2 2 (take (r .count) a) (take (r .count) b))
+        → q ≡ sortTest w n t ends
+    unfolding orderTest sortTest
+    sorted-order s a b room spare whole q h =
+        let few : r .count ≤ n = found-few w n t ends r d in
+        let front : length (take (r .count) a) ≡ length (take (r .count) b) = same-front (r .count) a b (omega arith) (omega arith) in
+        h
+        ∙ ap (neighboursRise w) (list-fits w 2 2 (take (r .count) a) (take (r .count) b) front)
+        ∙ rw (sym (d .sound) ∙ s, whole)
+
+    module _ (small : n ≤ noCell) where
+      -- The walk is the test of each list.
+      each-list : r .sound ≡ allBelow 385 (listTest w n t ends)
+      unfolding walkTest
+      each-list = d .sound ∙ rw (le-leb n noCell small)
+
+      -- A list is not sound.
+      pub lists-unsound : r .sound ≡ false → false ≡ listsTest w n t ends
+      unfolding listsTest
+      lists-unsound s = rw (sym each-list ∙ s)
+
+      module _ (s : r .sound ≡ true) (f : ℕ) (free : f ≡ frees w n) where
+        -- So many cells were noted.
+        many : r .count ≡ length (noted w n t ends 385)
+        many = rw s at (d .count)
+
+        -- They are not those in use.
+        pub lists-others : (n - r .count ≡ f → ⊥) → false ≡ listsTest w n t ends
+        unfolding listsTest
+        lists-others q =
+            rw (sym each-list ∙ s, ne-eqb (length (noted w n t ends 385) + frees w n) n (λ e. q (omega (arith, many))))
+
+        module _ (whole : n - r .count ≡ f) where
+          -- The order decides.
+          lists-order : listsTest w n t ends ≡ orderTest w (noted w n t ends 385)
+          unfolding listsTest
+          lists-order =
+              rw (
+                sym each-list ∙ s,
+                eq-eqb (length (noted w n t ends 385) + frees w n) n (omega (arith, many, found-few w n t ends r d)),
+              )
+
+          -- Order numbers rise along each list.
+          pub lists-climb : r .rise ≡ true → true ≡ listsTest w n t ends
+          lists-climb u = sym (lists-order ∙ climbs-order w n t ends (sym (rw s at (d .rise)) ∙ u))
+
+          -- They do not, so that the sort decides.
+          pub lists-sorted : (q : Bool) → q ≡ sortTest w n t ends → q ≡ listsTest w n t ends
+          unfolding sortTest
+          lists-sorted q h = h ∙ rw (sym (d .sound) ∙ s) (sym lists-order)

@@ -8,21 +8,21 @@ use mathlib.Core.Path.{_≡_, sym, _∙_}
 use lib.Dec.{leb, eqb}
 use lib.ListN.{length}
 use borrow.Author.Tests.{leb-true, le-leb, eqb-true, eq-eqb}
-use Rattle.cells.specs.Words.{word}
-use Rattle.cells.specs.Stack.{isFree, frees}
-use Rattle.cells.specs.Rules.{inUse, Sound}
+use Rattle.cells.specs.Stack.{frees}
+use Rattle.cells.specs.Rules.{Sound}
+use Rattle.cells.specs.declared.store.Store.{Store}
 use Rattle.audits.specs.AuditTests.{allBelow, sharedTest}
+use Rattle.audits.specs.Verdicts.{Judged}
+use Rattle.audits.specs.declared.audit.Verdict.{Verdict}
 use Rattle.cells.proofs.Cases.{test, clash, and-true}
-use Rattle.audits.proofs.Below.{below-each, each-below}
 use Rattle.audits.proofs.Audits.{shared-decides}
-use Rattle.cells.proofs.Used.{in-use-free, not-free-used}
 use Rattle.places.specs.Ticks.{lastTick}
 use Rattle.slots.specs.Rings.{Lists}
 use Rattle.slots.specs.declared.ring.Ends.{Ends}
 use Rattle.wheel_rules.specs.Rules.{usedMask, freeMask, WheelSound}
-use Rattle.wheel_rules.specs.AuditTests.{dialTest, deadlineTest, arraysTest, markTest, endsIn, noted, listTest, orderTest, listsTest, auditTest}
+use Rattle.wheel_rules.specs.AuditTests.{dialTest, arraysTest, markTest, endsIn, noted, listTest, orderTest, listsTest, auditTest}
 use Rattle.dial.specs.declared.state.Dial.{Dial}
-use Rattle.wheel_rules.proofs.Listed.{tests-listing, listing-rings, listing-whole, listing-order, listing-marks}
+use Rattle.wheel_rules.proofs.Listed.{tests-within, tests-listing, listing-rings, listing-whole, listing-order, listing-marks}
 
 -- The test of the numbers.
 dial-rule : (d : Dial) → dialTest d ≡ true → (d .store .counter ≤ 18446744073709551615) × (d .clock ≤ lastTick 64 6)
@@ -35,24 +35,6 @@ dial-rule d t =
 rule-dial : (d : Dial) → d .store .counter ≤ 18446744073709551615 → d .clock ≤ lastTick 64 6 → dialTest d ≡ true
 unfolding dialTest
 rule-dial d h k = rw (le-leb (d .store .counter) 18446744073709551615 h, le-leb (d .clock) (lastTick 64 6) k)
-
--- The test of one deadline.
-deadline-rule : (w : List ℕ) (t c : ℕ) → deadlineTest w t c ≡ true → inUse w c ≡ true → (t ≤ word w c 2) × (word w c 2 ≤ lastTick 64 6)
-unfolding deadlineTest
-deadline-rule w t c e u =
-    let both = and-true (leb t (word w c 2)) (leb (word w c 2) (lastTick 64 6)) (rw (in-use-free w c u) at e) in
-    (leb-true _ _ (both .0), leb-true _ _ (both .1))
-
--- A deadline that keeps the rules passes.
-rule-deadline : (w : List ℕ) (t c : ℕ) → (inUse w c ≡ true → t ≤ word w c 2) → (inUse w c ≡ true → word w c 2 ≤ lastTick 64 6)
-    → deadlineTest w t c ≡ true
-unfolding deadlineTest
-rule-deadline w t c f g =
-    test (isFree w c)
-    (λ e. rw e)
-    (λ e.
-    let u = not-free-used w c e in
-    rw e (rw (le-leb t (word w c 2) (f u), le-leb (word w c 2) (lastTick 64 6) (g u))))
 
 -- The test of the arrays.
 pub record Arrays (first last marks : List ℕ) : Type 0 where
@@ -79,10 +61,6 @@ module _ (l : Lists) (d : Dial) where
   abbrev shared : Bool
   shared = sharedTest (l .words) (d .store) usedMask freeMask
 
-  -- Of the deadlines.
-  abbrev deadlines : Bool
-  deadlines = allBelow (d .store .cells) (deadlineTest (l .words) (d .clock))
-
   -- Of the arrays' lengths.
   abbrev arrays : Bool
   arrays = arraysTest (l .first) (l .last) (l .marks)
@@ -96,22 +74,23 @@ module _ (l : Lists) (d : Dial) where
   lists = listsTest (l .words) (d .store .cells) (d .clock) (endsIn (l .first) (l .last) (l .due))
 
   -- What passes all tests is sound.
-  tests-sound : dialTest d ≡ true → shared ≡ true → deadlines ≡ true → arrays ≡ true → marks ≡ true → lists ≡ true → WheelSound l d
+  tests-sound : dialTest d ≡ true → shared ≡ true → arrays ≡ true → marks ≡ true → lists ≡ true → WheelSound l d
   unfolding listsTest
-  tests-sound a b c e m z =
+  tests-sound a b e m z =
       let sound : Sound (l .words) (d .store) usedMask freeMask = shared-decides (l .words) (d .store) usedMask freeMask .0 b in
       let dial = dial-rule d a in
       let sized : Arrays (l .first) (l .last) (l .marks) = arrays-rule (l .first) (l .last) (l .marks) e in
       let one = and-true (allBelow 385 (listTest w n t ends)) (eqb (length (noted w n t ends 385) + frees w n) n && orderTest w (noted w n t ends 385)) z in
       let two = and-true (eqb (length (noted w n t ends 385) + frees w n) n) (orderTest w (noted w n t ends 385)) (one .1) in
+      let whole : length (noted w n t ends 385) + frees w n ≡ n = eqb-true _ _ (two .0) in
+      let within = tests-within l d (sound .size) (sound .most) (sized .firsts) (sized .lasts) (sized .levels) m (one .0) whole (two .1) in
       record {
         shared = sound;
         counts = dial .0;
         clock = dial .1;
-        late = λ c h u. deadline-rule w t c (below-each (deadlineTest w t) n c₀ c h) u .0;
-        last = λ c h u. deadline-rule w t c (below-each (deadlineTest w t) n c₀ c h) u .1;
-        listing =
-            tests-listing l d (sound .size) (sound .most) (sized .firsts) (sized .lasts) (sized .levels) m (one .0) (eqb-true _ _ (two .0)) (two .1);
+        late = λ c h u. within c h u .late;
+        last = λ c h u. within c h u .last;
+        listing = tests-listing l d (sound .size) (sound .most) (sized .firsts) (sized .lasts) (sized .levels) m (one .0) whole (two .1);
       }
     where
       w : List ℕ
@@ -126,9 +105,6 @@ module _ (l : Lists) (d : Dial) where
       ends : ℕ → Ends
       ends = endsIn (l .first) (l .last) (l .due)
 
-      c₀ : deadlines ≡ true
-      c₀ = c
-
   -- What is sound passes each test.
   module _ (s : WheelSound l d) where
     -- The numbers pass.
@@ -139,12 +115,6 @@ module _ (l : Lists) (d : Dial) where
     sound-shared : shared ≡ true
     sound-shared = shared-decides (l .words) (d .store) usedMask freeMask .1 (s .shared)
 
-    -- The deadlines pass.
-    sound-deadlines : deadlines ≡ true
-    sound-deadlines =
-        each-below (deadlineTest (l .words) (d .clock)) (d .store .cells)
-        (λ c h. rule-deadline (l .words) (d .clock) c (s .late c h) (s .last c h))
-
     -- The arrays pass.
     sound-arrays : arrays ≡ true
     sound-arrays =
@@ -153,34 +123,33 @@ module _ (l : Lists) (d : Dial) where
 
     -- The marks pass.
     sound-marks : marks ≡ true
-    sound-marks = listing-marks l d (s .shared .size) (s .shared .most) (s .listing)
+    sound-marks = listing-marks l d (s .shared .size) (s .shared .most) (s .listing) (s .late) (s .last)
 
     -- The lists pass.
     sound-lists : lists ≡ true
     unfolding listsTest
     sound-lists =
         rw (
-          listing-rings l d (s .shared .size) (s .shared .most) (s .listing),
-          eq-eqb _ _ (listing-whole l d (s .shared .size) (s .shared .most) (s .listing)),
+          listing-rings l d (s .shared .size) (s .shared .most) (s .listing) (s .late) (s .last),
+          eq-eqb _ _ (listing-whole l d (s .shared .size) (s .shared .most) (s .listing) (s .late) (s .last)),
         )
-        (listing-order l d (s .shared .size) (s .shared .most) (s .listing))
+        (listing-order l d (s .shared .size) (s .shared .most) (s .listing) (s .late) (s .last))
 
   -- All tests together decide soundness.
   pub audit-decides : (auditTest l d ≡ true) ↔ WheelSound l d
   unfolding auditTest
   audit-decides = (to, from)
     where
-      to : dialTest d && (shared && (deadlines && (arrays && (marks && lists)))) ≡ true → WheelSound l d
+      to : dialTest d && (shared && (arrays && (marks && lists))) ≡ true → WheelSound l d
       to t =
-          let one = and-true (dialTest d) (shared && (deadlines && (arrays && (marks && lists)))) t in
-          let two = and-true shared (deadlines && (arrays && (marks && lists))) (one .1) in
-          let three = and-true deadlines (arrays && (marks && lists)) (two .1) in
-          let four = and-true arrays (marks && lists) (three .1) in
-          let five = and-true marks lists (four .1) in
-          tests-sound (one .0) (two .0) (three .0) (four .0) (five .0) (five .1)
+          let one = and-true (dialTest d) (shared && (arrays && (marks && lists))) t in
+          let two = and-true shared (arrays && (marks && lists)) (one .1) in
+          let three = and-true arrays (marks && lists) (two .1) in
+          let four = and-true marks lists (three .1) in
+          tests-sound (one .0) (two .0) (three .0) (four .0) (four .1)
 
-      from : WheelSound l d → dialTest d && (shared && (deadlines && (arrays && (marks && lists)))) ≡ true
-      from s = rw (sound-dial s, sound-shared s, sound-deadlines s, sound-arrays s, sound-marks s) (sound-lists s)
+      from : WheelSound l d → dialTest d && (shared && (arrays && (marks && lists))) ≡ true
+      from s = rw (sound-dial s, sound-shared s, sound-arrays s, sound-marks s) (sound-lists s)
 
   -- The code's ways out: by the first test that fails, or by the last.
   module _ (a : Bool) (ea : a ≡ dialTest d) where
@@ -189,44 +158,43 @@ module _ (l : Lists) (d : Dial) where
     unfolding auditTest
     audit-dial x = rw (sym ea ∙ x)
 
-    module _ (ta : a ≡ true) (b : Bool) (eb : (b ≡ true) ↔ Sound (l .words) (d .store) usedMask freeMask) where
+    module _ (ta : a ≡ true) (v : Verdict) (ev : Judged (l .words) (d .store) usedMask freeMask v) where
       -- The shared audit's answer is its test.
-      answer : b ≡ shared
+      answer : v .sound ≡ shared
       answer =
-          test b
-          (λ x. x ∙ sym (shared-decides (l .words) (d .store) usedMask freeMask .1 (eb .0 x)))
+          test (v .sound)
+          (λ x. x ∙ sym (shared-decides (l .words) (d .store) usedMask freeMask .1 (ev .exact .0 x)))
           (λ x.
           test shared
-          (λ y. clash (eb .1 (shared-decides (l .words) (d .store) usedMask freeMask .0 y)) x)
+          (λ y. clash (ev .exact .1 (shared-decides (l .words) (d .store) usedMask freeMask .0 y)) x)
           (λ y. x ∙ sym y))
 
       -- What every engine shares fails.
-      pub audit-shared : b ≡ false → false ≡ auditTest l d
+      pub audit-shared : v .sound ≡ false → false ≡ auditTest l d
       unfolding auditTest
       audit-shared x = rw (sym ea ∙ ta, sym answer ∙ x)
 
-      module _ (tb : b ≡ true) (c : Bool) (ec : c ≡ deadlines) where
-        -- A deadline fails.
-        pub audit-deadlines : c ≡ false → false ≡ auditTest l d
+      module _ (tv : v .sound ≡ true) (e : Bool) (ee : e ≡ arrays) where
+        -- The arrays fail.
+        pub audit-arrays : e ≡ false → false ≡ auditTest l d
         unfolding auditTest
-        audit-deadlines x = rw (sym ea ∙ ta, sym answer ∙ tb, sym ec ∙ x)
+        audit-arrays x = rw (sym ea ∙ ta, sym answer ∙ tv, sym ee ∙ x)
 
-        module _ (tc : c ≡ true) (e : Bool) (ee : e ≡ arrays) where
-          -- The arrays fail.
-          pub audit-arrays : e ≡ false → false ≡ auditTest l d
+        module _ (te : e ≡ true) (m : Bool) (em : m ≡ marks) where
+          -- A mark fails.
+          pub audit-marks : m ≡ false → false ≡ auditTest l d
           unfolding auditTest
-          audit-arrays x = rw (sym ea ∙ ta, sym answer ∙ tb, sym ec ∙ tc, sym ee ∙ x)
+          audit-marks x = rw (sym ea ∙ ta, sym answer ∙ tv, sym ee ∙ te, sym em ∙ x)
 
-          module _ (te : e ≡ true) (m : Bool) (em : m ≡ marks) where
-            -- A mark fails.
-            pub audit-marks : m ≡ false → false ≡ auditTest l d
-            unfolding auditTest
-            audit-marks x = rw (sym ea ∙ ta, sym answer ∙ tb, sym ec ∙ tc, sym ee ∙ te, sym em ∙ x)
+          -- All that passes, so that the lists decide.
+          pub audit-lists : m ≡ true → (z : Bool) → z ≡ lists → z ≡ auditTest l d
+          unfolding auditTest
+          audit-lists tm z ez = rw (sym ea ∙ ta, sym answer ∙ tv, sym ee ∙ te, sym em ∙ tm) ez
 
-            -- All that passes, so that the lists decide.
-            pub audit-lists : m ≡ true → (z : Bool) → z ≡ lists → z ≡ auditTest l d
-            unfolding auditTest
-            audit-lists tm z ez = rw (sym ea ∙ ta, sym answer ∙ tb, sym ec ∙ tc, sym ee ∙ te, sym em ∙ tm) ez
+-- Where the shared audit says yes there are at most 4,096 cells, and those free are counted.
+pub audit-counted : (w : List ℕ) (s : Store) (used free : ℕ) (v : Verdict) → Judged w s used free v → v .sound ≡ true
+    → (s .cells ≤ 4096) × (v .free ≡ frees w (s .cells))
+audit-counted w s used free v h e = (h .exact .0 e .most, rw e at (h .count))
 
 -- The answer of the audit.
 pub audit-answers : (l : Lists) (d : Dial) (r : Bool) → r ≡ auditTest l d → (r ≡ true) ↔ WheelSound l d

@@ -5,10 +5,11 @@ pub mod Gathered
 pub mod SoundShown
 pub mod OneMemory
 pub mod Rising
+pub mod ListSpans
 pub mod Walks
 pub mod Noting
 pub mod AuditSteps
 pub mod Counting
+pub mod Climbing
 pub mod Listed
 pub mod Audits
-pub mod Climbs

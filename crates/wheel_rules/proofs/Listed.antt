@@ -3,7 +3,7 @@
 use Prim.Native.Nat.{ℕ, zero, suc, _+_, _-_, _*_, _/_, _^_, _≤_, _<_}
 use native.Mathlib.Omega.{arith}
 use mathlib.Core.Bool.{Bool, true, false, cond, not, _&&_}
-use mathlib.Core.List.{List, _++_}
+use mathlib.Core.List.{List}
 use mathlib.Core.Path.{_≡_, refl, sym, ap, _∙_}
 use lib.Dec.{leb, ltb, eqb}
 use lib.ListN.{length, getD, length-append, List·getD-eq-default}
@@ -16,9 +16,9 @@ use Rattle.audits.specs.AuditTests.{allBelow}
 use Rattle.cells.proofs.Cases.{test, atMost?, clash, and-true}
 use Rattle.audits.proofs.Below.{below-each, each-below}
 use Rattle.cells.proofs.Sums.{all-standing}
-use Rattle.cells.proofs.Lists.{all-times}
 use Rattle.cells.proofs.Chains.{chain-once}
 use Rattle.cells.proofs.Used.{in-use-free, not-free-used}
+use Rattle.places.specs.Ticks.{lastTick}
 use Rattle.slots.specs.Rings.{Lists, next, previous, endsOf, slotMarked}
 use Rattle.slots.specs.Stand.{dueList, RingOf, endsAt, hasCells, Stand}
 use Rattle.slots.specs.declared.ring.Ends.{Ends}
@@ -30,7 +30,9 @@ use Rattle.dial.proofs.Numbers.{number-most}
 use Rattle.wheel_rules.specs.Rules.{Listing}
 use Rattle.wheel_rules.specs.AuditTests.{markTest, endsIn, listCells, ringTest, noted, listTest, orderTest}
 use Rattle.dial.specs.declared.state.Dial.{Dial}
-use Rattle.wheel_rules.proofs.Walks.{Own, cells-own, ring-walked, ring-closes}
+use Rattle.wheel_rules.proofs.ListSpans.{StandsIn}
+use Rattle.wheel_rules.proofs.Walks.{Own, ring-walked, ring-closes}
+use Rattle.wheel_rules.proofs.Climbing.{cellsOf, noted-gathered, noted-own}
 use Rattle.wheel_rules.proofs.Rising.{order-decides}
 use Rattle.wheel_rules.proofs.Counting.{gathered, inUseOne, gathered-times, gathered-few, gathered-whole, gathered-count, rises-each, each-rises}
 
@@ -110,16 +112,20 @@ module _ (l : Lists) where
     abbrev stands : ℕ → ℕ → Bool
     stands i c = ltb c n && (inUse w c && eqb (placeOf c) i)
 
-    -- A cell of list i is to stand there.
-    own-stands : (i c : ℕ) → Own w n t i c → stands i c ≡ true
-    own-stands i c o = rw (lt-ltb c n (o .inside), not-free-used w c (o .used), eq-eqb (placeOf c) i (o .place))
+    -- A cell in use whose place is list i is to stand there.
+    place-stands : (i c : ℕ) → c < n → inUse w c ≡ true → placeOf c ≡ i → stands i c ≡ true
+    place-stands i c h u e = rw (lt-ltb c n h, u, eq-eqb (placeOf c) i e)
 
-    -- What is to stand in list i is a cell of it.
-    stands-own : (i c : ℕ) → stands i c ≡ true → Own w n t i c
-    stands-own i c e =
+    -- A cell of list i is one.
+    own-stands : (i c : ℕ) → Own w n t i c → stands i c ≡ true
+    own-stands i c o = place-stands i c (o .inside) (not-free-used w c (o .used)) (o .stands .place)
+
+    -- What is to stand in list i is a cell in use whose place is there.
+    stands-place : (i c : ℕ) → stands i c ≡ true → (c < n) × (inUse w c ≡ true) × (placeOf c ≡ i)
+    stands-place i c e =
         let one = and-true (ltb c n) (inUse w c && eqb (placeOf c) i) e in
         let two = and-true (inUse w c) (eqb (placeOf c) i) (one .1) in
-        record { inside = ltb-true _ _ (one .0); used = in-use-free w c (two .0); place = eqb-true _ _ (two .1) }
+        (ltb-true _ _ (one .0), two .0, eqb-true _ _ (two .1))
 
     -- What passes the tests of arrays and lists has lists that keep the rules.
     module _
@@ -132,17 +138,11 @@ module _ (l : Lists) where
         (order : orderTest w (noted w n t ends 385) ≡ true) where
       -- The cells that were noted of list i.
       abbrev ls : ℕ → List ℕ
-      ls i = listCells w n t i (ends i) (n - length (noted w n t ends i))
-
-      -- What was noted of the lists below k is their cells, one list behind the other.
-      noted-gathered : (k : ℕ) → noted w n t ends k ≡ gathered ls k
-      unfolding noted gathered
-      noted-gathered zero = refl
-      noted-gathered (suc k) = ap (λ (xs : List ℕ). xs ++ ls k) (noted-gathered k)
+      ls = cellsOf w n t ends
 
       -- A cell noted of list i belongs there.
       own : (i c : ℕ) → 1 ≤ times c (ls i) → Own w n t i c
-      own i c h = all-times (Own w n t i) (ls i) (cells-own w n t i (ends i) (n - length (noted w n t ends i))) c h
+      own = noted-own w n t ends
 
       -- The cells noted of list i are linked both ways.
       ring : (i : ℕ) → i ≤ dueList → RingOf w (ends i) (ls i)
@@ -182,7 +182,7 @@ module _ (l : Lists) where
             narrow = marks-narrow levels marks;
             inside = λ i c h k. omega (arith, own i c k .inside);
             once = once;
-            apart = λ i j c h k p q. sym (own i c p .place) ∙ own j c q .place;
+            apart = λ i j c h k p q. sym (own i c p .stands .place) ∙ own j c q .stands .place;
           }
 
       -- Each cell in use stands in its list.
@@ -190,19 +190,27 @@ module _ (l : Lists) where
       placed i c h =
           test (stands i c)
           (λ e.
-          let o : Own w n t i c = stands-own i c e in
+          let o = stands-place i c e in
           let all : times c (gathered ls 385) ≡ inUseOne w c =
-          gathered-whole ls placeOf 385 (λ j x k s. own j x s .place) n (λ j x k s. own j x s .inside) (λ j x k. once j x (omega arith)) w
+          gathered-whole ls placeOf 385 (λ j x k s. own j x s .stands .place) n (λ j x k s. own j x s .inside)
+          (λ j x k. once j x (omega arith))
+          w
           (λ j x k s. own j x s .used)
-          (rw (noted-gathered 385) at whole)
+          (rw (noted-gathered w n t ends 385) at whole)
           c
-          (o .inside)
+          (o .0)
           in
           let there : times c (gathered ls 385) ≡ times c (ls i) =
-          rw (o .place, lt-ltb i 385 (omega arith)) at (gathered-times ls placeOf 385 (λ j x k s. own j x s .place) 385 c (omega arith))
+          rw (o .2, lt-ltb i 385 (omega arith)) at (gathered-times ls placeOf 385 (λ j x k s. own j x s .stands .place) 385 c (omega arith))
           in
-          rw e (sym there ∙ all ∙ rw (o .used)))
+          rw e (sym there ∙ all ∙ rw (in-use-free w c (o .1))))
           (λ e. rw e (atMost? 1 (times c (ls i)) (λ k. clash (own-stands i c (own i c k)) e) (λ k. omega arith)))
+
+      -- So its deadline is one that may stand there.
+      pub tests-within : (c : ℕ) → c < n → inUse w c ≡ true → StandsIn t (placeOf c) (word w c 2)
+      tests-within c h u =
+          own (placeOf c) c
+          (omega (arith, rw (place-stands (placeOf c) c h u refl) at (placed (placeOf c) c (number-most t (word w c 2))))) .stands
 
       -- So the lists keep the rules.
       pub tests-listing : Listing l d
@@ -211,19 +219,32 @@ module _ (l : Lists) where
             cells = ls;
             stand = stand;
             placed = placed;
-            stable = λ i h. rises-each w ls 385 i (omega arith) (rw (noted-gathered 385) at (order-decides w (noted w n t ends 385) .0 order));
+            stable = λ i h.
+                rises-each w ls 385 i (omega arith)
+                (rw (noted-gathered w n t ends 385) at (order-decides w (noted w n t ends 385) .0 order));
           }
 
-    -- Lists that keep the rules pass the tests.
-    module _ (r : Listing l d) where
+    -- Lists that keep the rules, of deadlines that do, pass the tests.
+    module _
+        (r : Listing l d)
+        (late : (c : ℕ) → c < n → inUse w c ≡ true → t ≤ word w c 2)
+        (last : (c : ℕ) → c < n → inUse w c ≡ true → word w c 2 ≤ lastTick 64 6) where
       -- A cell stands in its own list.
       kept-own : (i c : ℕ) → i < 385 → 1 ≤ times c (r .cells i) → Own w n t i c
       kept-own i c h k =
-          test (stands i c) (λ e. stands-own i c e) (λ e. absurd (omega (arith, rw e at (r .placed i c (omega arith)))))
+          test (stands i c)
+          (λ e.
+          let o = stands-place i c e in
+          record {
+            inside = o .0;
+            used = in-use-free w c (o .1);
+            stands = record { late = late c (o .0) (o .1); last = last c (o .0) (o .1); place = o .2 };
+          })
+          (λ e. absurd (omega (arith, rw e at (r .placed i c (omega arith)))))
 
       -- Its place is that list.
       kept-place : (i c : ℕ) → i < 385 → 1 ≤ times c (r .cells i) → placeOf c ≡ i
-      kept-place i c h k = kept-own i c h k .place
+      kept-place i c h k = kept-own i c h k .stands .place
 
       -- It is one of the first n.
       kept-inside : (i c : ℕ) → i < 385 → 1 ≤ times c (r .cells i) → c < n

@@ -16,8 +16,8 @@ use Rattle.slots.specs.Rings.{next, previous}
 use Rattle.slots.specs.Stand.{Linked, RingOf}
 use Rattle.slots.specs.declared.ring.Ends.{Ends}
 use Rattle.slots.proofs.Relinking.{next-none, next-some, previous-none, previous-some}
-use Rattle.dial.specs.Turns.{listOf}
-use Rattle.wheel_rules.specs.AuditTests.{standTest, walked, closes, listCells, ringTest}
+use Rattle.wheel_rules.specs.AuditTests.{standsIn, standTest, walked, closes, listCells, ringTest}
+use Rattle.wheel_rules.proofs.ListSpans.{StandsIn, stands-rule, rule-stands}
 
 -- A walk, by whether the next cell passes.
 module _ (ok : ℕ → ℕ → Bool) (follow : ℕ → ℕ) (last : ℕ) where
@@ -43,36 +43,44 @@ module _ (ok : ℕ → ℕ → Bool) (follow : ℕ → ℕ) (last : ℕ) where
   unfolding closes
   closes-on k p c e = rw e
 
+  -- No more cells are walked than were asked for.
+  pub walked-few : (k p c : ℕ) → length (walked ok follow k p c) ≤ k
+  walked-few zero p c = unfold walked in omega arith
+  walked-few (suc k) p c =
+      test (ok p c)
+      (λ e. rw (walked-on k p c e) (omega (arith, walked-few k c (follow c))))
+      (λ e. rw (walked-stop (suc k) p c e) (omega arith))
+
 -- What the test of a cell finds.
 pub record Stands (w : List ℕ) (n t i p c : ℕ) : Type 0 where
   pub inside : c < n
   pub used : isFree w c ≡ false
   pub back : word w c 5 ≡ p
-  pub place : listOf t (word w c 2) ≡ i
+  pub stands : StandsIn t i (word w c 2)
 
 module _ (w : List ℕ) (n t i : ℕ) where
   -- The test of a cell finds its rules.
   pub stand-rule : (p c : ℕ) → standTest w n t i p c ≡ true → Stands w n t i p c
   unfolding standTest
   stand-rule p c e =
-      let one = and-true (ltb c n) (not (isFree w c) && (eqb (word w c 5) p && eqb (listOf t (word w c 2)) i)) e in
-      let two = and-true (not (isFree w c)) (eqb (word w c 5) p && eqb (listOf t (word w c 2)) i) (one .1) in
-      let three = and-true (eqb (word w c 5) p) (eqb (listOf t (word w c 2)) i) (two .1) in
+      let one = and-true (ltb c n) (not (isFree w c) && (eqb (word w c 5) p && standsIn t i (word w c 2))) e in
+      let two = and-true (not (isFree w c)) (eqb (word w c 5) p && standsIn t i (word w c 2)) (one .1) in
+      let three = and-true (eqb (word w c 5) p) (standsIn t i (word w c 2)) (two .1) in
       record {
         inside = ltb-true _ _ (one .0);
         used = not-true (isFree w c) (two .0);
         back = eqb-true _ _ (three .0);
-        place = eqb-true _ _ (three .1);
+        stands = stands-rule t i (word w c 2) (three .1);
       }
 
   -- A cell that keeps the rules passes.
   rule-stand : (p c : ℕ) → Stands w n t i p c → standTest w n t i p c ≡ true
   unfolding standTest
   rule-stand p c s =
-      rw (lt-ltb c n (s .inside), s .used, eq-eqb (word w c 5) p (s .back), eq-eqb (listOf t (word w c 2)) i (s .place))
+      rw (lt-ltb c n (s .inside), s .used, eq-eqb (word w c 5) p (s .back)) (rule-stands t i (word w c 2) (s .stands))
 
   -- What is no cell of the first n does not stand.
-  stand-none : (p c : ℕ) → n ≤ c → standTest w n t i p c ≡ false
+  pub stand-none : (p c : ℕ) → n ≤ c → standTest w n t i p c ≡ false
   unfolding standTest
   stand-none p c h = rw (le-ltb c n h)
 
@@ -80,7 +88,7 @@ module _ (w : List ℕ) (n t i : ℕ) where
   pub record Own (c : ℕ) : Type 0 where
     pub inside : c < n
     pub used : isFree w c ≡ false
-    pub place : listOf t (word w c 2) ≡ i
+    pub stands : StandsIn t i (word w c 2)
 
   -- Each cell that was walked is one.
   walked-own : (k p c : ℕ) → All Own (walked (standTest w n t i) (link w) k p c)
@@ -90,7 +98,7 @@ module _ (w : List ℕ) (n t i : ℕ) where
       (λ e.
       let s : Stands w n t i p c = stand-rule p c e in
       rw (walked-on (standTest w n t i) (link w) 0 k p c e)
-      (record { inside = s .inside; used = s .used; place = s .place }, walked-own k c (link w c)))
+      (record { inside = s .inside; used = s .used; stands = s .stands }, walked-own k c (link w c)))
       (λ e. rw (walked-stop (standTest w n t i) (link w) 0 (suc k) p c e) tt)
 
   module _ (small : n ≤ noCell) (e : Ends) where
@@ -129,7 +137,7 @@ module _ (w : List ℕ) (n t i : ℕ) where
         let cell : x ≡ noCell → ⊥ = λ q. omega (arith, a .0 .inside) in
         let some : standTest w n t i p x ≡ true =
         rule-stand p x
-        (record { inside = a .0 .inside; used = a .0 .used; back = sym (previous-some w e x cell) ∙ h .1; place = a .0 .place }) in
+        (record { inside = a .0 .inside; used = a .0 .used; back = sym (previous-some w e x cell) ∙ h .1; stands = a .0 .stands }) in
         let rest = linked-walked x xs k (h .2) (a .1) (omega arith) in
         let on : link w x ≡ next w e x = sym (next-some w e x cell) in
         rw (h .0) (

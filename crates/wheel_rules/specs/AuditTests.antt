@@ -17,15 +17,11 @@ use Rattle.slots.specs.declared.ring.Ends.{Ends}
 use Rattle.dial.specs.Turns.{listOf}
 use Rattle.wheel_rules.specs.Rules.{usedMask, freeMask}
 use Rattle.dial.specs.declared.state.Dial.{Dial}
-use Rattle.wheel_rules.specs.declared.audit.Noted.{Noted}
+use Rattle.wheel_rules.specs.declared.walk.Noted.{Noted}
 
 -- "clock .. at most the last tick", and a counter of 64 bits, which any head in memory has
 unfoldable pub dialTest : Dial → Bool
 dialTest d = leb (d .store .counter) 18446744073709551615 && leb (d .clock) (lastTick 64 6)
-
--- "deadlines are at most the last tick; no deadline is below the clock": of cell c, if it is in use
-unfoldable pub deadlineTest : List ℕ → ℕ → ℕ → Bool
-deadlineTest w t c = isFree w c || (leb t (word w c 2) && leb (word w c 2) (lastTick 64 6))
 
 -- "six levels of 64 slots, 384 in all"
 unfoldable pub arraysTest : List ℕ → List ℕ → List ℕ → Bool
@@ -37,9 +33,14 @@ markTest first marks i =
     leb (getD marks (i / 64) 0) 18446744073709551615
     && cond (slotMarked marks i) (not (eqb (getD first i noCell) noCell)) (eqb (getD first i noCell) noCell)
 
--- Cell c may stand behind p in list i: one of the first n, in use, linked back, and of a deadline that belongs there.
+-- "no deadline is below the clock", "deadlines are at most the last tick", "each entry stands once in the list of its place": of deadline e
+-- and list i
+unfoldable pub standsIn : ℕ → ℕ → ℕ → Bool
+standsIn t i e = leb t e && (leb e (lastTick 64 6) && eqb (listOf t e) i)
+
+-- Cell c may stand behind p in list i: one of the first n, in use, linked back to p, and of a deadline that stands there.
 unfoldable pub standTest : List ℕ → ℕ → ℕ → ℕ → ℕ → ℕ → Bool
-standTest w n t i p c = ltb c n && (not (isFree w c) && (eqb (word w c 5) p && eqb (listOf t (word w c 2)) i))
+standTest w n t i p c = ltb c n && (not (isFree w c) && (eqb (word w c 5) p && standsIn t i (word w c 2)))
 
 -- The cells from c on, the first behind p, as far as they pass the test, at most k.
 unfoldable pub walked : (ℕ → ℕ → Bool) → (ℕ → ℕ) → ℕ → ℕ → ℕ → List ℕ
@@ -73,6 +74,19 @@ noted w n t ends (suc i) =
 unfoldable pub listTest : List ℕ → ℕ → ℕ → (ℕ → Ends) → ℕ → Bool
 listTest w n t ends i = ringTest w n t i (ends i) (n - length (noted w n t ends i))
 
+-- Each list does, of no more cells than there are numbers below no cell.
+unfoldable pub walkTest : List ℕ → ℕ → ℕ → (ℕ → Ends) → Bool
+walkTest w n t ends = leb n noCell && allBelow 385 (listTest w n t ends)
+
+-- Order numbers rise along the cells, the first of them above x.
+unfoldable pub climbs : List ℕ → ℕ → List ℕ → Bool
+climbs w x [] = true
+climbs w x (c ∷ cs) = ltb x (word w c 1) && climbs w (word w c 1) cs
+
+-- They do along list i. It is more than a rule asks, and seen while the list is walked; a wheel that was used has it.
+unfoldable pub listClimbs : List ℕ → ℕ → ℕ → (ℕ → Ends) → ℕ → Bool
+listClimbs w n t ends i = climbs w 0 (listCells w n t i (ends i) (n - length (noted w n t ends i)))
+
 -- "entries of equal deadline stand by rising order number": of two cells
 unfoldable pub riseTest : List ℕ → ℕ → ℕ → Bool
 riseTest w c d = not (eqb (word w c 2) (word w d 2)) || ltb (word w c 1) (word w d 1)
@@ -87,6 +101,10 @@ neighboursRise w (x ∷ (y ∷ ys)) = riseTest w x y && neighboursRise w (y ∷ 
 unfoldable pub orderTest : List ℕ → List ℕ → Bool
 orderTest w xs = neighboursRise w (sortBy (cellLeq w 2 2) xs)
 
+-- All lists by themselves, and the order.
+unfoldable pub sortTest : List ℕ → ℕ → ℕ → (ℕ → Ends) → Bool
+sortTest w n t ends = walkTest w n t ends && orderTest w (noted w n t ends 385)
+
 -- All lists: each by itself, as many cells in them as are in use, and the order.
 unfoldable pub listsTest : List ℕ → ℕ → ℕ → (ℕ → Ends) → Bool
 listsTest w n t ends =
@@ -98,19 +116,24 @@ unfoldable pub auditTest : Lists → Dial → Bool
 auditTest l d =
     dialTest d
     && (sharedTest (l .words) (d .store) usedMask freeMask
-    && (allBelow (d .store .cells) (deadlineTest (l .words) (d .clock))
     && (arraysTest (l .first) (l .last) (l .marks)
     && (allBelow 384 (markTest (l .first) (l .marks))
-    && listsTest (l .words) (d .store .cells) (d .clock) (endsIn (l .first) (l .last) (l .due))))))
+    && listsTest (l .words) (d .store .cells) (d .clock) (endsIn (l .first) (l .last) (l .due)))))
 
 -- What the walk through list i leaves, of the first m cells noted in a: more cells in a′, r .count in all.
 pub record ListNoted (w : List ℕ) (n t i : ℕ) (e : Ends) (m : ℕ) (a : List ℕ) (r : Noted) (a′ : List ℕ) : Type 0 where
   pub sound : r .sound ≡ ringTest w n t i e (n - m)
   pub few : r .count ≤ n
   pub list : take (r .count) a′ ≡ take m a ++ listCells w n t i e (n - m)
+  pub rise : r .rise ≡ climbs w 0 (listCells w n t i e (n - m))
 
--- What the walk through all lists leaves.
+-- What a walk through all lists finds: whether all are sound, how many cells they have, and whether order numbers rise along each.
+pub record WalkFound (w : List ℕ) (n t : ℕ) (ends : ℕ → Ends) (r : Noted) : Type 0 where
+  pub sound : r .sound ≡ walkTest w n t ends
+  pub count : r .count ≡ cond (r .sound) (length (noted w n t ends 385)) 0
+  pub rise : r .rise ≡ (r .sound && allBelow 385 (listClimbs w n t ends))
+
+-- What it leaves besides: their cells.
 pub record AllNoted (w : List ℕ) (n t : ℕ) (ends : ℕ → Ends) (r : Noted) (a′ : List ℕ) : Type 0 where
-  pub sound : r .sound ≡ allBelow 385 (listTest w n t ends)
-  pub few : r .count ≤ n
+  pub found : WalkFound w n t ends r
   pub list : r .sound ≡ true → take (r .count) a′ ≡ noted w n t ends 385

@@ -1,5 +1,5 @@
 -- The rules of the wheel's audit, its tests, and when lists and numbers show a model.
 pub mod Rules
 pub mod AuditTests
-pub mod Climbing
+pub mod Spans
 pub mod Shown
