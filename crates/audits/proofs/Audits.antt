@@ -11,7 +11,7 @@ use lib.ListN.{length, take, drop}
 use lib.Seq.{take-at}
 use borrow.Author.Tests.{eq-eqb, eqb-true, leb-true, le-leb, lt-leb, lt-ltb, ltb-true}
 use Rattle.cells.specs.Lists.{times}
-use Rattle.audits.specs.Sorted.{sortBy, cellLeq, neighboursDiffer}
+use Rattle.cell_sort.specs.Sorted.{sortBy, cellLeq, neighboursDiffer}
 use Rattle.cells.specs.Rules.{inUse, Differ, Sound}
 use Rattle.audits.specs.AuditTests.{allBelow, blankTest, usedTest, differTest, usedBelow, sizeTest, sharedTest}
 use Rattle.cells.specs.Stack.{standsAs, walks, stackTest}
@@ -21,10 +21,10 @@ use Rattle.audits.specs.declared.audit.Verdict.{Verdict}
 use Rattle.audits.specs.declared.sweep.Findings.{Findings}
 use Rattle.cells.specs.declared.store.Store.{Store}
 use Rattle.cells.proofs.Cases.{test, clash, and-true}
-use Rattle.audits.proofs.Sorting.{times-sort}
+use Rattle.cell_sort.proofs.Sorting.{times-sort}
 use Rattle.cells.proofs.Stacks.{stackTest-exactly}
 use Rattle.audits.proofs.Rules.{cells-rules, times-used}
-use Rattle.audits.proofs.Distinct.{sorted-differ}
+use Rattle.cell_sort.proofs.Distinct.{sorted-differ}
 use Rattle.audits.proofs.Steps.{used-length, gather-length}
 
 -- The first of two tests fails, or the second decides.

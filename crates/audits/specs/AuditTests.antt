@@ -6,7 +6,7 @@ use mathlib.Core.List.{List, [], _∷_, _++_}
 use lib.Dec.{leb, ltb, eqb}
 use lib.ListN.{length}
 use Rattle.cells.specs.Words.{word}
-use Rattle.audits.specs.Sorted.{sortBy, cellLeq, neighboursDiffer}
+use Rattle.cell_sort.specs.Sorted.{sortBy, cellLeq, neighboursDiffer}
 use Rattle.cells.specs.Rules.{inUse, inMask}
 use Rattle.cells.specs.Stack.{isFree, stackTest}
 use Rattle.cells.specs.declared.store.Store.{Store}

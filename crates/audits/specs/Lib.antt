@@ -1,5 +1,4 @@
--- What the shared audit tests, by one pass over the cells with tables, and sorting.
-pub mod Sorted
+-- What the shared audit tests, by one pass over the cells with tables.
 pub mod AuditTests
 pub mod Tables
 pub mod Sweeping

@@ -1,7 +1,7 @@
 // Whether tickets and order numbers differ, by sorting: the answer where the tables gave up.
 
-use crate::sort::all_differ;
-use crate::sort::sort;
+use cell_sort::sort::all_differ;
+use cell_sort::sort::sort;
 use cells::words::get;
 ghost use Prim.Native.Nat.{_+_, _≤_, _<_};
 ghost use mathlib.Core.Bool.{cond, _&&_};
@@ -11,7 +11,7 @@ ghost use lib.Dec.{leb};
 ghost use lib.ListN.{length, drop, set};
 ghost use Rattle.cells.specs.Rules.{inUse};
 ghost use Rattle.audits.specs.AuditTests.{usedBelow, differTest};
-ghost use Rattle.audits.specs.Sorted.{sortBy, cellLeq, neighboursDiffer};
+ghost use Rattle.cell_sort.specs.Sorted.{sortBy, cellLeq, neighboursDiffer};
 
 // Notes cell c at m if it is in use, and says where the next goes.
 fn note(w: &[u64], c: u64, m: usize, a: &mut [u16]) -> usize

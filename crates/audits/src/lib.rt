@@ -1,9 +1,8 @@
-// The part of the audit that every engine shares, and the sort that it and the engines' own audits use.
+// The part of the audit that every engine shares.
 
 pub mod audit;
 pub mod cell;
 pub mod differ;
-pub mod sort;
 pub mod stack;
 pub mod sweep;
 pub mod table;

@@ -1,7 +1,7 @@
 // Tables of cells by their tickets and by their order numbers, which tell in one pass that these differ. A table may give up: then it says nothing, and
 // something slower decides.
 
-use crate::sort::word_of;
+use cell_sort::sort::word_of;
 use cells::words::get;
 ghost use Prim.Native.Nat.{_<_};
 ghost use mathlib.Core.Path.{_≡_};

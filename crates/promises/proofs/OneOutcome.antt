@@ -11,7 +11,7 @@ use mathlib.Core.Logic.{_↔_}
 use mathlib.Core.Path.{_≡_, refl, sym, ap, _∙_}
 use lib.ListN.{drop}
 use Rattle.cells.proofs.Cases.{clash}
-use Rattle.audits.specs.Sorted.{SortDone}
+use Rattle.cell_sort.specs.Sorted.{SortDone}
 use Rattle.cells.specs.declared.store.Store.{Store}
 use Rattle.meaning.specs.Plain.{Plain}
 use Rattle.meaning.specs.Calls.{Call, Answer}

@@ -12,9 +12,9 @@ use borrow.Author.Tests.{le-leb, lt-ltb, le-ltb, eq-eqb, ne-eqb}
 use Rattle.cells.specs.Words.{word}
 use Rattle.cells.specs.Stack.{noCell, isFree, frees}
 use Rattle.audits.specs.AuditTests.{allBelow}
-use Rattle.audits.specs.Sorted.{sortedList}
-use Rattle.audits.proofs.CellOrder.{pairs}
-use Rattle.audits.proofs.CellSort.{list-fits}
+use Rattle.cell_sort.specs.Sorted.{sortedList}
+use Rattle.cell_sort.proofs.CellOrder.{pairs}
+use Rattle.cell_sort.proofs.CellSort.{list-fits}
 use Rattle.places.specs.Ticks.{lastTick}
 use Rattle.slots.specs.Rings.{lent, endsOf, isMarked, slotMarked}
 use Rattle.slots.specs.declared.ring.Ends.{Ends}

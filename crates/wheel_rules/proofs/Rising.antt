@@ -10,13 +10,13 @@ use lib.Dec.{ltb, eqb}
 use borrow.Author.Tests.{lt-ltb, ltb-true, le-leb, eq-eqb, ne-eqb, eqb-true, eqb-false, not-true}
 use Rattle.cells.specs.Lists.{All, times}
 use Rattle.cells.specs.Words.{word}
-use Rattle.audits.specs.Sorted.{Sorted, sortBy, cellLeq}
+use Rattle.cell_sort.specs.Sorted.{Sorted, sortBy, cellLeq}
 use Rattle.cells.proofs.Cases.{test, same?, and-true, or-true}
 use Rattle.cells.proofs.Lists.{all-map, all-both, times-here, times-past, all-append}
 use Rattle.cells.proofs.Sums.{all-standing}
-use Rattle.audits.proofs.Sorting.{sort-sorted}
-use Rattle.audits.proofs.Stability.{picked, picked-here, picked-past, sort-stable}
-use Rattle.audits.proofs.CellOrder.{cellLeq-total, cellLeq-trans, by-one-field, leq-same}
+use Rattle.cell_sort.proofs.Sorting.{sort-sorted}
+use Rattle.cell_sort.proofs.Stability.{picked, picked-here, picked-past, sort-stable}
+use Rattle.cell_sort.proofs.CellOrder.{cellLeq-total, cellLeq-trans, by-one-field, leq-same}
 use Rattle.wheel_rules.specs.Rules.{Rises}
 use Rattle.wheel_rules.specs.AuditTests.{riseTest, neighboursRise, orderTest}
 

@@ -8,7 +8,7 @@ use lib.Dec.{leb, ltb, eqb}
 use lib.ListN.{length, getD, take}
 use Rattle.cells.specs.Words.{word}
 use Rattle.cells.specs.Stack.{noCell, isFree, frees, link}
-use Rattle.audits.specs.Sorted.{sortBy, cellLeq}
+use Rattle.cell_sort.specs.Sorted.{sortBy, cellLeq}
 use Rattle.audits.specs.AuditTests.{sharedTest, allBelow}
 use Rattle.places.specs.Ticks.{lastTick}
 use Rattle.slots.specs.Rings.{Lists, slotMarked}

@@ -1,9 +1,9 @@
 // The order of equal deadlines: sorted by deadline they are neighbours, and a stable sort keeps their order.
 
-use audits::sort::sort;
+use cell_sort::sort::sort;
 use cells::words::get;
 ghost use mathlib.Core.Path.{_≡_};
-ghost use Rattle.audits.specs.Sorted.{sortedList};
+ghost use Rattle.cell_sort.specs.Sorted.{sortedList};
 ghost use Rattle.wheel_rules.specs.AuditTests.{riseTest, neighboursRise};
 
 // Whether cells a and b, if of equal deadline, rise in order number.

@@ -2,14 +2,14 @@
 -- Assumes nothing.
 use mathlib.Core.Path.{ap, _∙_}
 use borrow.Author.Needs.{needs}
-use Rattle.audits.specs.Sorted.{neighboursDiffer}
-use Rattle.audits.proofs.CellSort.{list-fits}
+use Rattle.cell_sort.specs.Sorted.{neighboursDiffer}
+use Rattle.cell_sort.proofs.CellSort.{list-fits}
 use Rattle.audits.proofs.differ.distinct.Statement.{statement}
 use Rattle.audits.proofs.differ.distinct.Tie as tie
 use Rattle.audits.proofs.differ.distinct.Reads as reads
 use Rattle.audits.proofs.differ.distinct.Lts as lts
-use Rattle.audits.proofs.sort.all_differ.Reads as all-differ-reads
-use Rattle.audits.proofs.sort.sort.Reads as sort-reads
+use Rattle.cell_sort.proofs.sort.all_differ.Reads as all-differ-reads
+use Rattle.cell_sort.proofs.sort.sort.Reads as sort-reads
 
 sort-requires : tie.Need-sort-requires
 sort-requires c κs = search needs

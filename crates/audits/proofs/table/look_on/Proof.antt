@@ -10,7 +10,7 @@ use Rattle.audits.proofs.table.look_on.Statement.{statement}
 use Rattle.audits.proofs.table.look_on.Tie as tie
 use Rattle.audits.proofs.table.look_on.Reads as reads
 use Rattle.audits.proofs.table.look_on.Lts as lts
-use Rattle.audits.proofs.sort.word_of.Reads as word-of-reads
+use Rattle.cell_sort.proofs.sort.word_of.Reads as word-of-reads
 
 abbrev Inv-loop : tie.InvT-loop
 Inv-loop w f c key from t₀ left i₀ rest₀ t i rest = Looking w f key from t₀ t i × (rest ≤ left)
