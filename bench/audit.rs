@@ -3,7 +3,7 @@
 // twice (tickets and order numbers). Built and run by bench/run.
 mod common;
 
-use common::{both, next, shuffled, Row};
+use common::{both, next, shuffled, By, Row};
 use std::hint::black_box;
 
 extern "C" {
@@ -17,6 +17,10 @@ struct Memory {
     words: Vec<u64>,
     // Cells, top of the free stack, counter.
     store: [u64; 3],
+}
+
+fn decided(m: &Memory) -> By {
+    common::decided(&m.words, m.store[2], MASKS[0])
 }
 
 fn audit(m: &Memory) -> bool {
@@ -42,14 +46,14 @@ fn memory(n: usize, used: usize, row: &Row, seed: &mut u64) -> Memory {
     Memory { words: w, store: [n as u64, top, row.last().map_or(1, |last| last + 1)] }
 }
 
-// One row of the table; what the tables are to say of it.
-fn measure(mut m: Memory, used: usize, kind: &str, said: u64) {
+// One row of the table; what is to tell that numbers differ.
+fn measure(mut m: Memory, used: usize, kind: &str, by: By) {
     let n = m.words.len() / 8;
     m.words[8 * n - 1] = 1;
     assert!(!audit(&m), "the audit passes broken memory");
     m.words[8 * n - 1] = 0;
     assert!(audit(&m), "the audit refuses sound memory");
-    assert_eq!(common::sweep(&m.words, m.store, MASKS), said, "{kind} memory is decided in another way");
+    assert_eq!(decided(&m), by, "{kind} memory is decided in another way");
     let (ours, sorts) = both((200_000 / n) as u32, || { black_box(audit(black_box(&m))); }, common::sorts(&m.words, 2));
     println!("{n} {used} {kind} {ours:.0} {:.1} {sorts:.0} {}", ours / n as f64, common::ratio(used, ours, sorts));
 }
@@ -60,19 +64,15 @@ fn main() {
     println!("cells in_use memory audit_ns ns_per_cell sorts_ns ratio");
     for n in [64usize, 512, 4096] {
         for used in [n, n / 2, 0] {
-            measure(memory(n, used, &common::following(used), seed), used, "plain", 2);
+            measure(memory(n, used, &common::following(used), seed), used, "plain", By::Tables);
         }
         for used in [n, n / 2] {
             let row = common::sparse(used, seed);
-            measure(memory(n, used, &row, seed), used, "sparse", 2);
-            measure(memory(n, used, &common::crowded(used), seed), used, "crowded", 2);
+            measure(memory(n, used, &row, seed), used, "sparse", By::Tables);
+            measure(memory(n, used, &common::crowded(used), seed), used, "crowded", By::Scattered);
             let at = *seed;
-            let gives_up = |row: &Row| {
-                let m = memory(n, used, row, &mut { at });
-                common::sweep(&m.words, m.store, MASKS) == 1
-            };
-            let row = common::colliding(used, &gives_up);
-            measure(memory(n, used, &row, seed), used, "colliding", 1);
+            let row = common::colliding(used, &|row| decided(&memory(n, used, row, &mut { at })) == By::Sort);
+            measure(memory(n, used, &row, seed), used, "colliding", By::Sort);
         }
     }
 }

@@ -4,15 +4,30 @@
 use std::time::Instant;
 
 extern "C" {
-    // 0: a rule of one cell is broken, 1: the tables gave up and a sort decides, 2: they know that tickets and order numbers differ.
-    fn wastelquib_test_sweep(w: *const u64, w_len: usize, numbers: *const u64, numbers_len: usize, used: u64, free: u64) -> u64;
+    // 0: an entry is broken, 1: the tables gave up, 2: they know that tickets and order numbers differ.
+    fn wastelquib_test_tables(w: *const u64, w_len: usize, numbers: *const u64, numbers_len: usize, used: u64, scattered: u64) -> u64;
     // 1: one look along the lists says that equal deadlines rise, 0: it does not know.
     fn wastelquib_test_climb(w: *const u64, w_len: usize, clock: u64, cells: *const u16, cells_len: usize) -> u64;
 }
 
-// store is cells, top of the free stack, counter; masks say which words are zero in a cell in use and in a free one.
-pub fn sweep(words: &[u64], store: [u64; 3], masks: [u64; 2]) -> u64 {
-    unsafe { wastelquib_test_sweep(words.as_ptr(), words.len(), store.as_ptr(), 3, masks[0], masks[1]) }
+// What tells that tickets and order numbers differ: tables in which they are spread evenly, tables in which they are scattered as well, or
+// a sort.
+#[derive(Clone, Copy, PartialEq, Debug)]
+pub enum By {
+    Tables,
+    Scattered,
+    Sort,
+}
+
+// The mask says which words are zero in a cell in use.
+pub fn decided(words: &[u64], counter: u64, unused: u64) -> By {
+    let numbers = [words.len() as u64 / 8, counter];
+    let tables = |scattered| unsafe { wastelquib_test_tables(words.as_ptr(), words.len(), numbers.as_ptr(), 2, unused, scattered) };
+    match (tables(0), tables(1)) {
+        (2, _) => By::Tables,
+        (_, 2) => By::Scattered,
+        _ => By::Sort,
+    }
 }
 
 // cells are those of all lists one behind the other.
@@ -51,7 +66,7 @@ pub fn sparse(len: usize, seed: &mut u64) -> Row {
     (0..len).map(|_| { number += 1 + next(seed) % 1_000_000; number }).collect()
 }
 
-// Multiples of one of Fibonacci's numbers, which a spread by the golden ratio crowds: the tables take them, at what cost the row shows.
+// Multiples of one of Fibonacci's numbers, which a spread by the golden ratio crowds, so that they have to be scattered.
 pub fn crowded(len: usize) -> Row {
     (1..=len as u64).map(|i| i * 6765).collect()
 }

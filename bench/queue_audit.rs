@@ -4,7 +4,7 @@
 // numbers, which the door reads. Built and run by bench/run.
 mod common;
 
-use common::{both, next, shuffled, Row};
+use common::{both, next, shuffled, By, Row};
 use std::hint::black_box;
 
 extern "C" {
@@ -55,18 +55,18 @@ fn queue(n: usize, used: usize, row: &Row, arity: usize, seed: &mut u64) -> Queu
     Queue { numbers: [arity as u64, used as u64, n as u64, top, counter], words: w }
 }
 
-fn sweep(q: &Queue) -> u64 {
-    common::sweep(&q.words, [q.numbers[2], q.numbers[3], q.numbers[4]], [144, 175])
+fn decided(q: &Queue) -> By {
+    common::decided(&q.words, q.numbers[4], 144)
 }
 
-// One row of the table; what the tables are to say of it.
-fn measure(mut q: Queue, used: usize, arity: usize, memory: &str, said: u64) {
+// One row of the table; what is to tell that numbers differ.
+fn measure(mut q: Queue, used: usize, arity: usize, memory: &str, by: By) {
     let n = q.words.len() / 8;
     q.words[8 * n - 1] = 1;
     assert_eq!(audit(&q), 0, "the audit passes broken memory");
     q.words[8 * n - 1] = 0;
     assert_eq!(audit(&q), 1, "the audit refuses sound memory");
-    assert_eq!(sweep(&q), said, "{memory} memory is decided in another way");
+    assert_eq!(decided(&q), by, "{memory} memory is decided in another way");
     let (ours, sorts) = both((200_000 / n) as u32, || { black_box(audit(black_box(&q))); }, common::sorts(&q.words, 2));
     println!("{n} {used} {arity} {memory} {ours:.0} {:.1} {sorts:.0} {}", ours / n as f64, common::ratio(used, ours, sorts));
 }
@@ -77,15 +77,15 @@ fn main() {
     println!("cells in_use arity memory audit_ns ns_per_cell sorts_ns ratio");
     for n in [64usize, 512, 4096] {
         for (used, arity) in [(n, 2), (n, 4), (n, 8), (n / 2, 2), (n / 2, 4), (n / 2, 8), (0, 4)] {
-            measure(queue(n, used, &common::following(2 * used), arity, seed), used, arity, "plain", 2);
+            measure(queue(n, used, &common::following(2 * used), arity, seed), used, arity, "plain", By::Tables);
         }
         for used in [n, n / 2] {
             let row = common::sparse(2 * used, seed);
-            measure(queue(n, used, &row, 4, seed), used, 4, "sparse", 2);
-            measure(queue(n, used, &common::crowded(2 * used), 4, seed), used, 4, "crowded", 2);
+            measure(queue(n, used, &row, 4, seed), used, 4, "sparse", By::Tables);
+            measure(queue(n, used, &common::crowded(2 * used), 4, seed), used, 4, "crowded", By::Scattered);
             let at = *seed;
-            let row = common::colliding(2 * used, &|row| sweep(&queue(n, used, row, 4, &mut { at })) == 1);
-            measure(queue(n, used, &row, 4, seed), used, 4, "colliding", 1);
+            let row = common::colliding(2 * used, &|row| decided(&queue(n, used, row, 4, &mut { at })) == By::Sort);
+            measure(queue(n, used, &row, 4, seed), used, 4, "colliding", By::Sort);
         }
     }
 }

@@ -6,7 +6,7 @@
 // no longer than that. Built and run by bench/run.
 mod common;
 
-use common::{both, next, shuffled, Row};
+use common::{both, next, shuffled, By, Row};
 use std::hint::black_box;
 
 extern "C" {
@@ -90,8 +90,8 @@ fn wheel(n: usize, row: &Row, deadlines: &[u64], unrisen: bool, seed: &mut u64) 
     v
 }
 
-fn sweep(v: &Wheel) -> u64 {
-    common::sweep(&v.words, [v.numbers[3], v.numbers[4], v.numbers[5]], [192, 239])
+fn decided(v: &Wheel) -> By {
+    common::decided(&v.words, v.numbers[5], 192)
 }
 
 // The look along the lists; no entry is due.
@@ -107,14 +107,14 @@ fn climb(v: &Wheel) -> u64 {
     common::climb(&v.words, CLOCK, &cells)
 }
 
-// One row of the table; what the tables and the look are to say of it.
-fn measure(mut v: Wheel, used: usize, horizon: u64, memory: &str, said: [u64; 2]) {
+// One row of the table; what is to tell that numbers differ, and what the look along the lists is to say.
+fn measure(mut v: Wheel, used: usize, horizon: u64, memory: &str, by: By, look: u64) {
     let n = v.words.len() / 8;
     v.words[8 * n - 1] = 1;
     assert_eq!(audit(&v), 0, "the audit passes broken memory");
     v.words[8 * n - 1] = 0;
     assert_eq!(audit(&v), 1, "the audit refuses sound memory");
-    assert_eq!([sweep(&v), climb(&v)], said, "{memory} memory is decided in another way");
+    assert_eq!((decided(&v), climb(&v)), (by, look), "{memory} memory is decided in another way");
     let (ours, sorts) = both((200_000 / n) as u32, || { black_box(audit(black_box(&v))); }, common::sorts(&v.words, 3));
     println!("{n} {used} {horizon} {memory} {ours:.0} {:.1} {sorts:.0} {}", ours / n as f64, common::ratio(used, ours, sorts));
 }
@@ -131,20 +131,20 @@ fn main() {
         let half = n / 2;
         for (used, horizon) in [(n, 1000), (n, 100_000), (n, 100_000_000), (half, 1000), (half, 100_000), (half, 100_000_000), (0, 1)] {
             let due = deadlines(used, horizon, seed);
-            measure(wheel(n, &common::following(2 * used), &due, false, seed), used, horizon, "plain", [2, 1]);
+            measure(wheel(n, &common::following(2 * used), &due, false, seed), used, horizon, "plain", By::Tables, 1);
         }
         for used in [n, n / 2] {
             let horizon = 100_000;
             let due = deadlines(used, horizon, seed);
             let row = common::sparse(2 * used, seed);
-            measure(wheel(n, &row, &due, false, seed), used, horizon, "sparse", [2, 1]);
-            measure(wheel(n, &common::crowded(2 * used), &due, false, seed), used, horizon, "crowded", [2, 1]);
+            measure(wheel(n, &row, &due, false, seed), used, horizon, "sparse", By::Tables, 1);
+            measure(wheel(n, &common::crowded(2 * used), &due, false, seed), used, horizon, "crowded", By::Scattered, 1);
             let at = *seed;
-            let row = common::colliding(2 * used, &|row| sweep(&wheel(n, row, &due, false, &mut { at })) == 1);
-            measure(wheel(n, &row, &due, false, seed), used, horizon, "colliding", [1, 1]);
+            let row = common::colliding(2 * used, &|row| decided(&wheel(n, row, &due, false, &mut { at })) == By::Sort);
+            measure(wheel(n, &row, &due, false, seed), used, horizon, "colliding", By::Sort, 1);
             let apart = horizon / used as u64;
             let due: Vec<u64> = shuffled(used, seed).into_iter().map(|i| CLOCK + 1 + i as u64 * apart).collect();
-            measure(wheel(n, &common::following(2 * used), &due, true, seed), used, horizon, "unrisen", [2, 0]);
+            measure(wheel(n, &common::following(2 * used), &due, true, seed), used, horizon, "unrisen", By::Tables, 0);
         }
     }
 }

@@ -9,8 +9,8 @@ use crate::wheel_door::Wheel;
 
 pub trait Driven: Engine {
     const NAME: &'static str;
-    // The words that are zero in a cell in use, and in a free one, as digits.
-    const MASKS: [u64; 2];
+    // The words that are zero in a cell in use, as digits.
+    const UNUSED: u64;
     // The calls that add, change and take out an entry.
     const CALLS: [&'static str; 3];
     fn start(cells: usize) -> Self;
@@ -32,7 +32,7 @@ pub fn made<E: Engine>(e: &mut E, call: Call, out: &mut Lent<u64>) -> Told {
 
 impl Driven for Wheel {
     const NAME: &'static str = "wheel";
-    const MASKS: [u64; 2] = [192, 239];
+    const UNUSED: u64 = 192;
     const CALLS: [&'static str; 3] = ["arm", "move", "cancel"];
     fn start(cells: usize) -> Wheel {
         let mut v = Wheel::blank(8 * cells);
@@ -69,7 +69,7 @@ impl Driven for Wheel {
 
 impl Driven for Queue {
     const NAME: &'static str = "queue";
-    const MASKS: [u64; 2] = [144, 175];
+    const UNUSED: u64 = 144;
     const CALLS: [&'static str; 3] = ["put", "rekey", "remove"];
     fn start(cells: usize) -> Queue {
         let mut q = Queue::blank(8 * cells);

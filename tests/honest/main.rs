@@ -54,7 +54,8 @@ fn main() {
     let mut tally = Tally::default();
     all::<Wheel>(&mut tally);
     all::<Queue>(&mut tally);
-    let Tally { states, fell_back, looked, in_vain, calls, largest, .. } = tally;
+    let Tally { states, scattered, fell_back, looked, in_vain, calls, largest, .. } = tally;
+    println!("{scattered:8}  states whose numbers had to be scattered");
     println!("{looked:8}  looks along the lists of a wheel, {in_vain} in vain");
     println!("{calls:8}  calls, the largest counter {largest}");
     println!("honest memory: {states} states asked, {fell_back} fell back to a sort");

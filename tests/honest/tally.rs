@@ -3,9 +3,9 @@
 use crate::driven::Driven;
 
 extern "C" {
-    // numbers are cells, top of the free stack, counter; the masks say which words of a cell have to be zero. 0: a rule is broken, 1: the
-    // tables gave up, 2: they know that tickets and order numbers differ.
-    fn wastelquib_test_sweep(w: *const u64, w_len: usize, numbers: *const u64, numbers_len: usize, used: u64, free: u64) -> u64;
+    // numbers are cells and counter; the mask says which words of an entry have to be zero. Tickets and order numbers are spread evenly over
+    // the tables, or scattered as well. 0: an entry is broken, 1: the tables gave up, 2: they know that the numbers differ.
+    fn wastelquib_test_tables(w: *const u64, w_len: usize, numbers: *const u64, numbers_len: usize, used: u64, scattered: u64) -> u64;
     // The cells of all lists one behind the other. 1: equal deadlines rise, 0: the look does not know.
     fn wastelquib_test_climb(w: *const u64, w_len: usize, clock: u64, cells: *const u16, cells_len: usize) -> u64;
 }
@@ -13,6 +13,7 @@ extern "C" {
 #[derive(Default)]
 pub struct Tally {
     pub states: u64,
+    pub scattered: u64,
     pub fell_back: u64,
     pub looked: u64,
     pub in_vain: u64,
@@ -23,11 +24,12 @@ pub struct Tally {
 }
 
 // Whether the tables took the numbers of this memory.
-pub fn sweep(words: &[u64], store: [u64; 3], masks: [u64; 2]) -> u64 {
-    unsafe { wastelquib_test_sweep(words.as_ptr(), words.len(), store.as_ptr(), 3, masks[0], masks[1]) }
+fn tables<E: Driven>(e: &E, scattered: bool) -> u64 {
+    let [cells, _, counter] = e.store();
+    unsafe { wastelquib_test_tables(e.words().as_ptr(), e.words().len(), [cells, counter].as_ptr(), 2, E::UNUSED, scattered as u64) }
 }
 
-pub fn climb(words: &[u64], clock: u64, cells: &[u16]) -> u64 {
+fn climb(words: &[u64], clock: u64, cells: &[u16]) -> u64 {
     unsafe { wastelquib_test_climb(words.as_ptr(), words.len(), clock, cells.as_ptr(), cells.len()) }
 }
 
@@ -42,15 +44,18 @@ impl Tally {
     pub fn ask<E: Driven>(&mut self, e: &E, what: &dyn Fn() -> String) {
         self.states += 1;
         self.largest = self.largest.max(e.store()[2]);
-        match sweep(e.words(), e.store(), E::MASKS) {
-            2 => (),
-            1 => {
+        let evenly = tables(e, false);
+        let scattered = if evenly == 1 { tables(e, true) } else { 2 };
+        match (evenly, scattered) {
+            (2, _) => (),
+            (1, 2) => self.scattered += 1,
+            (1, 1) => {
                 self.fell_back += 1;
                 self.say(format!("{}: the tables gave up", what()));
             }
             other => {
                 self.broken += 1;
-                self.say(format!("{}: the sweep answers {other}", what()));
+                self.say(format!("{}: the tables answer {other:?}", what()));
             }
         }
         if let Some((clock, cells)) = e.in_lists() {
