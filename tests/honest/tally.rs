@@ -3,8 +3,8 @@
 use crate::driven::Driven;
 
 extern "C" {
-    // numbers are cells and counter; the mask says which words of an entry have to be zero. Tickets and order numbers are spread evenly over
-    // the tables, or scattered as well. 0: an entry is broken, 1: the tables gave up, 2: they know that the numbers differ.
+    // numbers are cells and counter; the mask says which words of an entry have to be zero. Tickets and order numbers are spread evenly
+    // over the tables, or scattered as well. 0: an entry is broken, 1: the tables gave up, 2: they know that the numbers differ.
     fn wastelquib_test_tables(w: *const u64, w_len: usize, numbers: *const u64, numbers_len: usize, used: u64, scattered: u64) -> u64;
     // The cells of all lists one behind the other. 1: equal deadlines rise, 0: the look does not know.
     fn wastelquib_test_climb(w: *const u64, w_len: usize, clock: u64, cells: *const u16, cells_len: usize) -> u64;
