@@ -1,14 +1,18 @@
-// How long the wheel's whole audit takes at N = 64, 512 and 4,096, with every cell in use, half of them, and none, deadlines below 10^3, 10^5 and 10^8
-// past the clock. The yardstick is Rust's sort_unstable on bare keys, three times (tickets, order numbers, deadlines), since the audit sorts the entries
-// by each; it checks nothing. The door copies the head, 1.6 KB, at each call: the row "head" is the call with a head of no cells, which the audit refuses
-// at once, so that the copy takes no longer than that. Build and run by bench/run.
+// How long the wheel's whole audit takes at N = 64, 512 and 4,096, with every cell in use, half of them, and none, deadlines below 10^3,
+// 10^5 and 10^8 past the clock; then, for deadlines below 10^5, memory with sparse numbers, with crowded ones, with numbers for which the
+// tables give up, and unrisen memory, in whose lists order numbers fall, so that a sort decides the order of equal deadlines. The
+// yardstick is Rust's sort_unstable on bare keys, three times (tickets, order numbers, deadlines); it checks nothing. The door copies the
+// head, 1.6 KB, at each call: the row "head" is the call with a head of no cells, which the audit refuses at once, so that the copy takes
+// no longer than that. Built and run by bench/run.
+mod common;
+
+use common::{both, next, shuffled, By, Row};
 use std::hint::black_box;
-use std::time::Instant;
 
 extern "C" {
     fn wastelquib_test_wheel_audit(
-        w: *const u64, w_len: usize, first: *const u16, first_len: usize, last: *const u16, last_len: usize, marks: *const u64, marks_len: usize,
-        numbers: *const u64, numbers_len: usize,
+        w: *const u64, w_len: usize, first: *const u16, first_len: usize, last: *const u16, last_len: usize,
+        marks: *const u64, marks_len: usize, numbers: *const u64, numbers_len: usize,
     ) -> u64;
 }
 
@@ -25,22 +29,6 @@ fn audit(v: &Wheel) -> u64 {
     unsafe {
         wastelquib_test_wheel_audit(w.as_ptr(), w.len(), f.as_ptr(), f.len(), l.as_ptr(), l.len(), m.as_ptr(), 6, n.as_ptr(), 6)
     }
-}
-
-// A small generator of numbers, so that runs repeat.
-fn next(x: &mut u64) -> u64 {
-    *x ^= *x << 13;
-    *x ^= *x >> 7;
-    *x ^= *x << 17;
-    *x
-}
-
-fn shuffled(n: usize, seed: &mut u64) -> Vec<usize> {
-    let mut order: Vec<usize> = (0..n).collect();
-    for i in (1..n).rev() {
-        order.swap(i, (next(seed) % (i as u64 + 1)) as usize);
-    }
-    order
 }
 
 const CLOCK: u64 = 1000;
@@ -71,15 +59,26 @@ impl Wheel {
     }
 }
 
-// A wheel of n cells, the first `used` of a shuffled order in use: tickets as they were armed, and then all moved once in another order.
-fn wheel(n: usize, used: usize, horizon: u64, seed: &mut u64) -> Wheel {
+// Deadlines of the entries, by the order in which they were moved.
+fn deadlines(used: usize, horizon: u64, seed: &mut u64) -> Vec<u64> {
+    (0..used).map(|_| CLOCK + 1 + next(seed) % horizon).collect()
+}
+
+// A wheel of n cells, as many of a shuffled order in use as there are deadlines: tickets as they were armed, and then all moved once in
+// another order. Where it is unrisen, entries with the later order number stand first in a list: then no two deadlines may be equal.
+fn wheel(n: usize, row: &Row, deadlines: &[u64], unrisen: bool, seed: &mut u64) -> Wheel {
+    let used = deadlines.len();
     let mut v = Wheel::empty(n);
     let order = shuffled(n, seed);
-    for (i, j) in shuffled(used, seed).into_iter().enumerate() {
+    let mut moved: Vec<(usize, usize)> = shuffled(used, seed).into_iter().enumerate().collect();
+    if unrisen {
+        moved.reverse();
+    }
+    for (i, j) in moved {
         let c = order[j];
-        v.words[8 * c] = j as u64 + 1;
-        v.words[8 * c + 1] = (used + i) as u64 + 1;
-        v.words[8 * c + 2] = CLOCK + 1 + next(seed) % horizon;
+        v.words[8 * c] = row[j];
+        v.words[8 * c + 1] = row[used + i];
+        v.words[8 * c + 2] = deadlines[i];
         v.words[8 * c + 3] = next(seed);
         v.join(c);
     }
@@ -87,58 +86,65 @@ fn wheel(n: usize, used: usize, horizon: u64, seed: &mut u64) -> Wheel {
         v.words[8 * c + 4] = v.numbers[4];
         v.numbers[4] = c as u64;
     }
-    v.numbers[5] = 2 * used as u64 + 1;
+    v.numbers[5] = row.last().map_or(1, |last| last + 1);
     v
 }
 
-fn time<F: FnMut()>(turns: u32, f: &mut F) -> f64 {
-    let start = Instant::now();
-    for _ in 0..turns {
-        f();
-    }
-    start.elapsed().as_nanos() as f64 / turns as f64
+fn decided(v: &Wheel) -> By {
+    common::decided(&v.words, v.numbers[5], 192)
 }
 
-// The smallest of ten times of each side, in turns.
-fn both<F: FnMut(), G: FnMut()>(turns: u32, mut f: F, mut g: G) -> (f64, f64) {
-    let (mut a, mut b) = (f64::MAX, f64::MAX);
-    for _ in 0..10 {
-        a = a.min(time(turns, &mut f));
-        b = b.min(time(turns, &mut g));
+// The look along the lists; no entry is due.
+fn climb(v: &Wheel) -> u64 {
+    let mut cells = Vec::new();
+    for &head in &v.first {
+        let mut c = head;
+        while c as u64 != NO_CELL {
+            cells.push(c);
+            c = v.words[8 * c as usize + 4] as u16;
+        }
     }
-    (a, b)
+    common::climb(&v.words, CLOCK, &cells)
+}
+
+// One row of the table; what is to tell that numbers differ, and what the look along the lists is to say.
+fn measure(mut v: Wheel, used: usize, horizon: u64, memory: &str, by: By, look: u64) {
+    let n = v.words.len() / 8;
+    v.words[8 * n - 1] = 1;
+    assert_eq!(audit(&v), 0, "the audit passes broken memory");
+    v.words[8 * n - 1] = 0;
+    assert_eq!(audit(&v), 1, "the audit refuses sound memory");
+    assert_eq!((decided(&v), climb(&v)), (by, look), "{memory} memory is decided in another way");
+    let (ours, sorts) = both((200_000 / n) as u32, || { black_box(audit(black_box(&v))); }, common::sorts(&v.words, 3));
+    println!("{n} {used} {horizon} {memory} {ours:.0} {:.1} {sorts:.0} {}", ours / n as f64, common::ratio(used, ours, sorts));
 }
 
 fn main() {
     let mut seed = 88172645463325252u64;
+    let seed = &mut seed;
     let none = Wheel::empty(0);
     assert_eq!(audit(&none), 0, "the audit passes a head with no cells");
     let copy = both(20_000, || { black_box(audit(black_box(&none))); }, || ()).0;
     println!("head {copy:.0}");
-    println!("cells in_use horizon audit_ns ns_per_cell sorts_ns ratio");
+    println!("cells in_use horizon memory audit_ns ns_per_cell sorts_ns ratio");
     for n in [64usize, 512, 4096] {
-        for (used, horizon) in [(n, 1000u64), (n, 100_000), (n, 100_000_000), (n / 2, 1000), (n / 2, 100_000), (n / 2, 100_000_000), (0, 1)] {
-            let mut v = wheel(n, used, horizon, &mut seed);
-            v.words[8 * n - 1] = 1;
-            assert_eq!(audit(&v), 0, "the audit passes broken memory");
-            v.words[8 * n - 1] = 0;
-            assert_eq!(audit(&v), 1, "the audit refuses sound memory");
-            let entries: Vec<usize> = (0..n).filter(|c| v.words[8 * c] != 0).collect();
-            let keys: Vec<Vec<u64>> = (0..3).map(|f| entries.iter().map(|c| v.words[8 * c + f]).collect()).collect();
-            let (ours, sorts) = both(
-                (200_000 / n) as u32,
-                || { black_box(audit(black_box(&v))); },
-                || {
-                    for k in &keys {
-                        let mut k = k.clone();
-                        k.sort_unstable();
-                        black_box(&k);
-                    }
-                },
-            );
-            // With no entry there is nothing to sort, and no ratio.
-            let ratio = if used == 0 { "-".to_string() } else { format!("{:.2}", ours / sorts) };
-            println!("{n} {used} {horizon} {ours:.0} {:.1} {sorts:.0} {ratio}", ours / n as f64);
+        let half = n / 2;
+        for (used, horizon) in [(n, 1000), (n, 100_000), (n, 100_000_000), (half, 1000), (half, 100_000), (half, 100_000_000), (0, 1)] {
+            let due = deadlines(used, horizon, seed);
+            measure(wheel(n, &common::following(2 * used), &due, false, seed), used, horizon, "plain", By::Tables, 1);
+        }
+        for used in [n, n / 2] {
+            let horizon = 100_000;
+            let due = deadlines(used, horizon, seed);
+            let row = common::sparse(2 * used, seed);
+            measure(wheel(n, &row, &due, false, seed), used, horizon, "sparse", By::Tables, 1);
+            measure(wheel(n, &common::crowded(2 * used), &due, false, seed), used, horizon, "crowded", By::Scattered, 1);
+            let at = *seed;
+            let row = common::colliding(2 * used, &|row| decided(&wheel(n, row, &due, false, &mut { at })) == By::Sort);
+            measure(wheel(n, &row, &due, false, seed), used, horizon, "colliding", By::Sort, 1);
+            let apart = horizon / used as u64;
+            let due: Vec<u64> = shuffled(used, seed).into_iter().map(|i| CLOCK + 1 + i as u64 * apart).collect();
+            measure(wheel(n, &common::following(2 * used), &due, true, seed), used, horizon, "unrisen", By::Tables, 0);
         }
     }
 }

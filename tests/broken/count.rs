@@ -18,6 +18,8 @@ pub struct Count {
     pub sound: u64,
     pub asked: u64,
     pub rules: BTreeMap<&'static str, u64>,
+    // By what the tables or the look are to meet: states that pass, and states that do not.
+    pub met: BTreeMap<&'static str, [u64; 2]>,
     // How often a call was refused with the first number where the second applied too; 0 where it was accepted.
     pub given: BTreeMap<(&'static str, u64, u64), u64>,
     pub differences: Vec<String>,
@@ -62,6 +64,32 @@ impl Count {
                 self.refused += 1;
                 *self.rules.entry(rule).or_default() += 1;
                 self.try_quick(e, scratch, what);
+            }
+        }
+    }
+
+    // One state for the tables or the look, of which is known which rule it breaks, if any: the audit and one of the checked calls.
+    pub fn meets<E: Engine>(&mut self, families: &[&'static str], e: &E, broken: Option<&'static str>, told: &dyn Fn() -> String) {
+        let what = || format!("{}, {}", families[0], told());
+        let passes = e.passes();
+        self.damages += 1;
+        if passes.err() != broken {
+            self.differs(format!("{}: made to break {broken:?}, the rules say {passes:?}", what()));
+        }
+        let said = e.audit();
+        if said != u64::from(passes.is_ok()) {
+            self.differs(format!("{}: the audit says {said}, the rules {passes:?}", what()));
+        }
+        let call = e.calls(self.damages)[self.damages as usize % 5];
+        self.try_call(e, call, passes, &mut e.clone(), &what);
+        for family in families {
+            self.met.entry(family).or_default()[usize::from(passes.is_err())] += 1;
+        }
+        match passes {
+            Ok(()) => self.accepted += 1,
+            Err(rule) => {
+                self.refused += 1;
+                *self.rules.entry(rule).or_default() += 1;
             }
         }
     }

@@ -1,11 +1,13 @@
-// States written word by word at random, so that they keep to the rules and no more: calls need not lead to them. In a list of the wheel entries of
-// different deadlines stand in any order, a heap is any that is ordered, cells and tickets are shuffled. The audit must pass every one of them.
+// States written word by word at random, so that they keep to the rules and no more: calls need not lead to them. In a list of the wheel
+// entries of different deadlines stand in any order, a heap is any that is ordered, cells and tickets are shuffled. The audit must pass
+// every one of them.
 
 use crate::lent::Lent;
 use crate::model_wheel::write_lists;
 use crate::queue_door::Queue;
 use crate::rules::{place, LAST_TICK, NO_CELL};
 use crate::wheel_door::Wheel;
+use std::collections::{BTreeMap, BTreeSet};
 
 // A small generator of numbers, so that runs repeat.
 pub struct Dice(pub u64);
@@ -23,23 +25,24 @@ impl Dice {
     pub fn one_of<T: Copy>(&mut self, from: &[T]) -> T {
         from[self.below(from.len() as u64) as usize]
     }
-    fn shuffle<T>(&mut self, xs: &mut [T]) {
+    pub fn shuffle<T>(&mut self, xs: &mut [T]) {
         for i in (1..xs.len()).rev() {
             xs.swap(i, self.below(i as u64 + 1) as usize);
         }
     }
 }
 
-// Memory with a free stack and entries that have tickets, order numbers and loads: the words, the cells in use, the top of the stack, the counter.
-struct Made {
-    words: Vec<u64>,
-    used: Vec<u64>,
+// Memory with a free stack and entries that have tickets, order numbers and loads: the words, the cells in use, the top of the stack, the
+// counter.
+pub struct Made {
+    pub words: Vec<u64>,
+    pub used: Vec<u64>,
     free: u64,
-    counter: u64,
+    pub counter: u64,
 }
 
 // Memory of n cells, of which so many are free.
-fn memory(dice: &mut Dice, n: u64, free_cells: u64) -> Made {
+pub fn memory(dice: &mut Dice, n: u64, free_cells: u64) -> Made {
     let rest = dice.below(8);
     let mut words = vec![0; (8 * n + rest) as usize];
     let mut cells: Vec<u64> = (0..n).collect();
@@ -58,15 +61,14 @@ fn memory(dice: &mut Dice, n: u64, free_cells: u64) -> Made {
         words[at + 1] = (1 + i as u64) * step + used.len() as u64 * dice.below(2) * step;
         words[at + 3] = dice.next();
     }
-    let mut seen = Vec::new();
+    let mut seen = BTreeSet::new();
     for &c in &used {
         let at = 8 * c as usize + 1;
-        while seen.contains(&words[at]) {
+        while !seen.insert(words[at]) {
             words[at] += 1;
         }
-        seen.push(words[at]);
     }
-    let counter = seen.iter().max().unwrap_or(&0) + 1 + dice.below(3);
+    let counter = seen.last().unwrap_or(&0) + 1 + dice.below(3);
     (0..rest).for_each(|i| words[(8 * n + i) as usize] = dice.next());
     Made { words, used, free, counter }
 }
@@ -74,18 +76,23 @@ fn memory(dice: &mut Dice, n: u64, free_cells: u64) -> Made {
 // Shuffles a list, and then sorts each group of equal deadlines by order number where it stands.
 fn any_order(dice: &mut Dice, words: &[u64], list: &mut [u64]) {
     dice.shuffle(list);
-    let word = |c: u64, f: usize| words[8 * c as usize + f];
-    for j in 0..list.len() {
-        for i in 0..j {
-            if word(list[i], 2) == word(list[j], 2) && word(list[i], 1) > word(list[j], 1) {
-                list.swap(i, j);
-            }
-        }
+    let mut groups: BTreeMap<u64, Vec<usize>> = BTreeMap::new();
+    for (at, &c) in list.iter().enumerate() {
+        groups.entry(words[8 * c as usize + 2]).or_default().push(at);
+    }
+    for group in groups.values() {
+        let mut cells: Vec<u64> = group.iter().map(|&at| list[at]).collect();
+        cells.sort_by_key(|&c| words[8 * c as usize + 1]);
+        group.iter().zip(cells).for_each(|(&at, c)| list[at] = c);
     }
 }
 
 pub fn wheel(dice: &mut Dice, n: u64, free_cells: u64) -> Wheel {
-    let mut m = memory(dice, n, free_cells);
+    let m = memory(dice, n, free_cells);
+    wheel_in(dice, m)
+}
+
+pub fn wheel_in(dice: &mut Dice, mut m: Made) -> Wheel {
     let far = dice.one_of(&[2, 70, 5000, 300_000, LAST_TICK]);
     let random = dice.next();
     let clock = dice.one_of(&[0, 1, 63, 64, 4095, LAST_TICK, LAST_TICK - 65, random % LAST_TICK]);
@@ -96,17 +103,26 @@ pub fn wheel(dice: &mut Dice, n: u64, free_cells: u64) -> Wheel {
         lists[place(clock, deadline)].push(c);
     }
     lists.iter_mut().for_each(|list| any_order(dice, &m.words, list));
+    wheel_of(m, clock, &lists)
+}
+
+// The wheel of these lists, whose deadlines are in the memory.
+pub fn wheel_of(m: Made, clock: u64, lists: &[Vec<u64>]) -> Wheel {
     let cells = m.words.len() as u64 / 8;
     let empty = Lent::filled(NO_CELL as u16, 384);
     let numbers = Lent::of(&[clock, NO_CELL, NO_CELL, cells, m.free, m.counter]);
     let mut v = Wheel { first: empty.clone(), last: empty, marks: Lent::filled(0, 6), numbers, words: Lent::of(&m.words) };
-    write_lists(&mut v, &lists);
+    write_lists(&mut v, lists);
     v
 }
 
 // Entries from the first on take any position whose parent is filled.
 pub fn queue(dice: &mut Dice, n: u64, free_cells: u64) -> Queue {
-    let mut m = memory(dice, n, free_cells);
+    let m = memory(dice, n, free_cells);
+    queue_in(dice, m)
+}
+
+pub fn queue_in(dice: &mut Dice, mut m: Made) -> Queue {
     let arity = 2 + dice.below(7);
     let far = dice.one_of(&[1, 3, 100, u64::MAX]);
     for &c in &m.used {
@@ -114,11 +130,12 @@ pub fn queue(dice: &mut Dice, n: u64, free_cells: u64) -> Queue {
     }
     let mut used = m.used.clone();
     used.sort_by_key(|&c| (m.words[8 * c as usize + 2], m.words[8 * c as usize + 1]));
-    let mut filled = vec![false; used.len()];
+    // The positions whose parent is filled, but they are not.
+    let mut open = vec![0];
     for &c in &used {
-        let open: Vec<usize> = (0..used.len()).filter(|&p| !filled[p] && (p == 0 || filled[(p - 1) / arity as usize])).collect();
-        let p = dice.one_of(&open);
-        filled[p] = true;
+        let p = open.swap_remove(dice.below(open.len() as u64) as usize);
+        let child = arity as usize * p + 1;
+        open.extend((child..child + arity as usize).take_while(|&p| p < used.len()));
         m.words[8 * p + 6] = c;
         m.words[8 * c as usize + 5] = p as u64;
     }

@@ -16,6 +16,7 @@ mod queue_door;
 mod rules;
 mod sound;
 mod states;
+mod tables;
 mod wheel_door;
 
 use count::Count;
@@ -196,6 +197,14 @@ fn main() {
     count.damage_some(&states::large_wheel(), 12);
     count.damage_some(&states::large_queue(), 5);
     made_states(&mut count);
+    tables::numbers(&mut count);
+    tables::lists(&mut count);
+    for (family, [sound, broken]) in count.met.clone() {
+        println!("{sound:8}  sound and {broken} broken: {family}");
+        if sound == 0 || broken == 0 {
+            count.differs(format!("not tried in both ways: {family}"));
+        }
+    }
     for rule in rules::names() {
         let times = count.rules.get(rule).copied().unwrap_or(0);
         println!("{times:8}  {rule}");

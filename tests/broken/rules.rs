@@ -1,8 +1,10 @@
-// The audit's rules, read from document 01 ("Audit, checked calls and quick calls", "Places on the wheel", "The heap's steps") and docs/LAYOUT.md alone,
-// one function to a rule. Plain rather than fast: they are the second opinion on the proved audit. Rules are tried in order and the first broken one is
-// named, so that a rule may lean on those above it.
+// The audit's rules, read from document 01 ("Audit, checked calls and quick calls", "Places on the wheel", "The heap's steps") and
+// docs/LAYOUT.md alone, one function to a rule. Plain rather than fast: they are the second opinion on the proved audit. Rules are tried in
+// order and the first broken one is named, so that a rule may lean on those above it.
 //
 // "Each cell is free or in use" has no function: by the layout word 0 decides, and there is no third.
+
+use std::collections::BTreeMap;
 
 pub const LAST_TICK: u64 = 68_719_476_735;
 pub const NO_CELL: u64 = 4096;
@@ -163,9 +165,12 @@ fn at(q: &Queue, p: u64) -> u64 {
 }
 
 fn positions_filled(q: &Queue) -> bool {
-    q.count <= q.store.cells
-        && (0..q.count).all(|p| q.store.is_entry(at(q, p)))
-        && q.store.entries().all(|c| (0..q.count).filter(|&p| at(q, p) == c).count() == 1)
+    if q.count > q.store.cells || !(0..q.count).all(|p| q.store.is_entry(at(q, p))) {
+        return false;
+    }
+    let mut times = vec![0; q.store.cells as usize];
+    (0..q.count).for_each(|p| times[at(q, p) as usize] += 1);
+    q.store.entries().all(|c| times[c as usize] == 1)
 }
 
 fn table_ends(q: &Queue) -> bool {
@@ -222,11 +227,12 @@ fn lists(v: &Wheel) -> Vec<Vec<u64>> {
 }
 
 fn entries_placed(v: &Wheel) -> bool {
-    let all = lists(v);
-    v.store.entries().all(|c| {
-        let own = place(v.clock, v.store.word(c, 2));
-        (0..=DUE).all(|i| all[i].iter().filter(|&&x| x == c).count() == usize::from(i == own))
-    })
+    // By cell, the lists in which it stands, as often as it does.
+    let mut stands = vec![Vec::new(); v.store.cells as usize];
+    for (i, list) in lists(v).iter().enumerate() {
+        list.iter().for_each(|&c| stands[c as usize].push(i));
+    }
+    v.store.entries().all(|c| stands[c as usize] == [place(v.clock, v.store.word(c, 2))])
 }
 
 fn linked_both_ways(v: &Wheel) -> bool {
@@ -242,8 +248,9 @@ fn marks_right(v: &Wheel) -> bool {
 }
 
 fn equals_rise(v: &Wheel) -> bool {
-    let number = |c: u64, field: u64| v.store.word(c, field);
     lists(v).iter().all(|list| {
-        (0..list.len()).all(|j| (0..j).all(|i| number(list[i], 2) != number(list[j], 2) || number(list[i], 1) < number(list[j], 1)))
+        // By deadline, the order number of the last entry that had it.
+        let mut before = BTreeMap::new();
+        list.iter().all(|&c| before.insert(v.store.word(c, 2), v.store.word(c, 1)).map_or(true, |number| number < v.store.word(c, 1)))
     })
 }

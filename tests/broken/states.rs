@@ -214,7 +214,7 @@ pub fn queues() -> Vec<State<Queue>> {
     all
 }
 
-// The largest memory with some eighty entries, since the rules are tried in quadratic time: of this one only some words are damaged.
+// The largest memory with some eighty entries, since each call is compared with a model: of this one only some words are damaged.
 pub fn large_wheel() -> State<Wheel> {
     let mut v = wheel(4096, 3, 1);
     let mut handles = Vec::new();
