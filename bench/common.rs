@@ -6,8 +6,6 @@ use std::time::Instant;
 extern "C" {
     // 0: an entry is broken, 1: the tables gave up, 2: they know that tickets and order numbers differ.
     fn wastelquib_test_tables(w: *const u64, w_len: usize, numbers: *const u64, numbers_len: usize, used: u64, scattered: u64) -> u64;
-    // 1: one look along the lists says that equal deadlines rise, 0: it does not know.
-    fn wastelquib_test_climb(w: *const u64, w_len: usize, clock: u64, cells: *const u16, cells_len: usize) -> u64;
 }
 
 // What tells that tickets and order numbers differ: tables in which they are spread evenly, tables in which they are scattered as well, or
@@ -28,12 +26,6 @@ pub fn decided(words: &[u64], counter: u64, unused: u64) -> By {
         (_, 2) => By::Scattered,
         _ => By::Sort,
     }
-}
-
-// cells are those of all lists one behind the other.
-#[allow(dead_code)]
-pub fn climb(words: &[u64], clock: u64, cells: &[u16]) -> u64 {
-    unsafe { wastelquib_test_climb(words.as_ptr(), words.len(), clock, cells.as_ptr(), cells.len()) }
 }
 
 // A small generator of numbers, so that runs repeat.

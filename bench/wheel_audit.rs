@@ -14,6 +14,9 @@ extern "C" {
         w: *const u64, w_len: usize, first: *const u16, first_len: usize, last: *const u16, last_len: usize,
         marks: *const u64, marks_len: usize, numbers: *const u64, numbers_len: usize,
     ) -> u64;
+    fn wastelquib_test_walked(
+        w: *const u64, w_len: usize, first: *const u16, first_len: usize, last: *const u16, last_len: usize, numbers: *const u64, numbers_len: usize,
+    ) -> u64;
 }
 
 struct Wheel {
@@ -94,27 +97,20 @@ fn decided(v: &Wheel) -> By {
     common::decided(&v.words, v.numbers[5], 192)
 }
 
-// The look along the lists; no entry is due.
-fn climb(v: &Wheel) -> u64 {
-    let mut cells = Vec::new();
-    for &head in &v.first {
-        let mut c = head;
-        while c as u64 != NO_CELL {
-            cells.push(c);
-            c = v.words[8 * c as usize + 4] as u16;
-        }
-    }
-    common::climb(&v.words, CLOCK, &cells)
+// What the walk along the lists tells: 2 where order numbers rise along each, 1 where they do not, so that a sort decides.
+fn walked(v: &Wheel) -> u64 {
+    let (f, l, n, w) = (&v.first, &v.last, &v.numbers, &v.words);
+    unsafe { wastelquib_test_walked(w.as_ptr(), w.len(), f.as_ptr(), f.len(), l.as_ptr(), l.len(), n.as_ptr(), 6) }
 }
 
-// One row of the table; what is to tell that numbers differ, and what the look along the lists is to say.
+// One row of the table; what is to tell that numbers differ, and what the walk along the lists is to tell.
 fn measure(mut v: Wheel, used: usize, horizon: u64, memory: &str, by: By, look: u64) {
     let n = v.words.len() / 8;
     v.words[8 * n - 1] = 1;
     assert_eq!(audit(&v), 0, "the audit passes broken memory");
     v.words[8 * n - 1] = 0;
     assert_eq!(audit(&v), 1, "the audit refuses sound memory");
-    assert_eq!((decided(&v), climb(&v)), (by, look), "{memory} memory is decided in another way");
+    assert_eq!((decided(&v), walked(&v)), (by, look), "{memory} memory is decided in another way");
     let (ours, sorts) = both((200_000 / n) as u32, || { black_box(audit(black_box(&v))); }, common::sorts(&v.words, 3));
     println!("{n} {used} {horizon} {memory} {ours:.0} {:.1} {sorts:.0} {}", ours / n as f64, common::ratio(used, ours, sorts));
 }
@@ -131,20 +127,20 @@ fn main() {
         let half = n / 2;
         for (used, horizon) in [(n, 1000), (n, 100_000), (n, 100_000_000), (half, 1000), (half, 100_000), (half, 100_000_000), (0, 1)] {
             let due = deadlines(used, horizon, seed);
-            measure(wheel(n, &common::following(2 * used), &due, false, seed), used, horizon, "plain", By::Tables, 1);
+            measure(wheel(n, &common::following(2 * used), &due, false, seed), used, horizon, "plain", By::Tables, 2);
         }
         for used in [n, n / 2] {
             let horizon = 100_000;
             let due = deadlines(used, horizon, seed);
             let row = common::sparse(2 * used, seed);
-            measure(wheel(n, &row, &due, false, seed), used, horizon, "sparse", By::Tables, 1);
-            measure(wheel(n, &common::crowded(2 * used), &due, false, seed), used, horizon, "crowded", By::Scattered, 1);
+            measure(wheel(n, &row, &due, false, seed), used, horizon, "sparse", By::Tables, 2);
+            measure(wheel(n, &common::crowded(2 * used), &due, false, seed), used, horizon, "crowded", By::Scattered, 2);
             let at = *seed;
             let row = common::colliding(2 * used, &|row| decided(&wheel(n, row, &due, false, &mut { at })) == By::Sort);
-            measure(wheel(n, &row, &due, false, seed), used, horizon, "colliding", By::Sort, 1);
+            measure(wheel(n, &row, &due, false, seed), used, horizon, "colliding", By::Sort, 2);
             let apart = horizon / used as u64;
             let due: Vec<u64> = shuffled(used, seed).into_iter().map(|i| CLOCK + 1 + i as u64 * apart).collect();
-            measure(wheel(n, &common::following(2 * used), &due, true, seed), used, horizon, "unrisen", By::Tables, 0);
+            measure(wheel(n, &common::following(2 * used), &due, true, seed), used, horizon, "unrisen", By::Tables, 1);
         }
     }
 }

@@ -4,8 +4,16 @@ use crate::doors::{call, Call, Engine, Told};
 use crate::lent::Lent;
 use crate::made::Dice;
 use crate::queue_door::Queue;
-use crate::rules::{LAST_TICK, NO_CELL};
+use crate::rules::LAST_TICK;
 use crate::wheel_door::Wheel;
+
+extern "C" {
+    // The ends of the slots, and the head's six numbers. 0: a list is broken, 1: order numbers do not rise along each list, 2: they do, so that equal
+    // deadlines stand by rising order number.
+    fn wastelquib_test_walked(
+        w: *const u64, w_len: usize, first: *const u16, first_len: usize, last: *const u16, last_len: usize, numbers: *const u64, numbers_len: usize,
+    ) -> u64;
+}
 
 pub trait Driven: Engine {
     const NAME: &'static str;
@@ -20,8 +28,8 @@ pub trait Driven: Engine {
     // Hands out some of those that are soonest, and says how many; those that will not come stay.
     fn turn(&mut self, dice: &mut Dice) -> u64;
     fn counter(&mut self) -> &mut u64;
-    // A wheel's clock, and the cells of its lists one behind the other.
-    fn in_lists(&self) -> Option<(u64, Vec<u16>)>;
+    // What a walk along a wheel's lists tells.
+    fn walked(&self) -> Option<u64>;
 }
 
 pub fn made<E: Engine>(e: &mut E, call: Call, out: &mut Lent<u64>) -> Told {
@@ -54,16 +62,9 @@ impl Driven for Wheel {
     fn counter(&mut self) -> &mut u64 {
         &mut self.numbers[5]
     }
-    fn in_lists(&self) -> Option<(u64, Vec<u16>)> {
-        let mut cells = Vec::new();
-        for head in self.first.iter().map(|&c| c as u64).chain([self.numbers[1]]) {
-            let mut c = head;
-            while c != NO_CELL {
-                cells.push(c as u16);
-                c = self.words[8 * c as usize + 4];
-            }
-        }
-        Some((self.numbers[0], cells))
+    fn walked(&self) -> Option<u64> {
+        let (w, f, l, n) = (&self.words, &self.first, &self.last, &self.numbers);
+        Some(unsafe { wastelquib_test_walked(w.as_ptr(), w.len(), f.as_ptr(), f.len(), l.as_ptr(), l.len(), n.as_ptr(), n.len()) })
     }
 }
 
@@ -93,7 +94,7 @@ impl Driven for Queue {
     fn counter(&mut self) -> &mut u64 {
         &mut self.numbers[4]
     }
-    fn in_lists(&self) -> Option<(u64, Vec<u16>)> {
+    fn walked(&self) -> Option<u64> {
         None
     }
 }

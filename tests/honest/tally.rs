@@ -6,8 +6,6 @@ extern "C" {
     // numbers are cells and counter; the mask says which words of an entry have to be zero. Tickets and order numbers are spread evenly
     // over the tables, or scattered as well. 0: an entry is broken, 1: the tables gave up, 2: they know that the numbers differ.
     fn wastelquib_test_tables(w: *const u64, w_len: usize, numbers: *const u64, numbers_len: usize, used: u64, scattered: u64) -> u64;
-    // The cells of all lists one behind the other. 1: equal deadlines rise, 0: the look does not know.
-    fn wastelquib_test_climb(w: *const u64, w_len: usize, clock: u64, cells: *const u16, cells_len: usize) -> u64;
 }
 
 #[derive(Default)]
@@ -27,10 +25,6 @@ pub struct Tally {
 fn tables<E: Driven>(e: &E, scattered: bool) -> u64 {
     let [cells, _, counter] = e.store();
     unsafe { wastelquib_test_tables(e.words().as_ptr(), e.words().len(), [cells, counter].as_ptr(), 2, E::UNUSED, scattered as u64) }
-}
-
-fn climb(words: &[u64], clock: u64, cells: &[u16]) -> u64 {
-    unsafe { wastelquib_test_climb(words.as_ptr(), words.len(), clock, cells.as_ptr(), cells.len()) }
 }
 
 impl Tally {
@@ -58,11 +52,11 @@ impl Tally {
                 self.say(format!("{}: the tables answer {other:?}", what()));
             }
         }
-        if let Some((clock, cells)) = e.in_lists() {
+        if let Some(told) = e.walked() {
             self.looked += 1;
-            if climb(e.words(), clock, &cells) != 1 {
+            if told != 2 {
                 self.in_vain += 1;
-                self.say(format!("{}: the look does not know", what()));
+                self.say(format!("{}: the walk along the lists answers {told}", what()));
             }
         }
     }

@@ -37,7 +37,7 @@ fn fits(first: &[u16], last: &[u16], marks: &[u64], numbers: &[u64]) -> bool {
 }
 
 // The head's numbers.
-fn dial_of(numbers: &[u64]) -> Dial {
+pub fn dial_of(numbers: &[u64]) -> Dial {
     let due = Ends {
         first: read(numbers, 1),
         last: read(numbers, 2),
