@@ -12,7 +12,7 @@ use Rattle.places.proofs.Digits.{quotient-next, quotient-digit, agree-a
 use Rattle.places.proofs.Levels.{level-agree, level-only, level-rise}
 use Rattle.places.proofs.Wakes.{place-slot}
 
--- What is said of a deadline e of slot s at level p.
+-- Tick e lies in the span of slot s at level p: the slot is above the clock's digit there, and e is one of the ticks from its wake tick on.
 pub record Spanned (b t p s e : ℕ) : Type 0 where
   pub over : digit b p t < s
   pub from : wakeTick b t p s ≤ e
@@ -49,13 +49,16 @@ module _ (b n t p s : ℕ) (hb : 0 < b) (ht : t < b ^ n) (low : p < n) (small : 
         let rest : e - q * b ^ p < b ^ p = omega (arith, wake-quotient b t p s, r .from, r .until) in
         ap (λ (x : ℕ). x / b ^ p) split ∙ digits-div q rest
 
+    -- So the quotients above agree,
     above : t / b ^ suc p ≡ e / b ^ suc p
     above = sym (quotient-next b p e ∙ ap (λ (q : ℕ). q / b) here ∙ digits-div (t / b ^ suc p) small)
 
+    -- its digit is the slot,
     digit-here : digit b p e ≡ s
     unfolding digit
     digit-here = ap (λ (q : ℕ). q % b) here ∙ digits-mod (t / b ^ suc p) small
 
+    -- and its quotient is the higher.
     higher : t / b ^ p < e / b ^ p
     higher = omega (arith, here, quotient-digit b p t, r .over)
 

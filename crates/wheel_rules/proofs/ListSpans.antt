@@ -95,7 +95,7 @@ module _ (t i : ℕ) where
     unfolding lastTick
     clock-below = omega arith
 
-    -- The deadlines of a slot are those of its level and digit,
+    -- A deadline of the slot lies in the span of its level and digit,
     stands-spanned : (e : ℕ) → StandsIn t i e → Spanned 64 t (i / 64) (i % 64) e
     unfolding digit
     stands-spanned e r =
@@ -106,7 +106,7 @@ module _ (t i : ℕ) where
         let at : digit 64 (level 64 6 t e) e ≡ i % 64 = omega (arith, r .place) in
         rw (at, here) at (own-span 64 6 t e later (tick-below 64 6 e (omega arith) (r .last)))
 
-    -- and those of them are its deadlines.
+    -- and a tick of that span is a deadline of the slot.
     spanned-stands : (e : ℕ) → Spanned 64 t (i / 64) (i % 64) e → StandsIn t i e
     unfolding listOf listNumber
     spanned-stands e r =

@@ -74,7 +74,7 @@ noted w n t ends (suc i) =
 unfoldable pub listTest : List ℕ → ℕ → ℕ → (ℕ → Ends) → ℕ → Bool
 listTest w n t ends i = ringTest w n t i (ends i) (n - length (noted w n t ends i))
 
--- Each list does, of no more cells than there are numbers below no cell.
+-- Every list passes its test, and there are at most 4,096 cells.
 unfoldable pub walkTest : List ℕ → ℕ → ℕ → (ℕ → Ends) → Bool
 walkTest w n t ends = leb n noCell && allBelow 385 (listTest w n t ends)
 
@@ -83,7 +83,7 @@ unfoldable pub climbs : List ℕ → ℕ → List ℕ → Bool
 climbs w x [] = true
 climbs w x (c ∷ cs) = ltb x (word w c 1) && climbs w (word w c 1) cs
 
--- They do along list i. It is more than a rule asks, and seen while the list is walked; a wheel that was used has it.
+-- Order numbers rise along list i from its head on. No rule asks it: a wheel that was used has it, and it is seen while the list is walked.
 unfoldable pub listClimbs : List ℕ → ℕ → ℕ → (ℕ → Ends) → ℕ → Bool
 listClimbs w n t ends i = climbs w 0 (listCells w n t i (ends i) (n - length (noted w n t ends i)))
 
@@ -101,7 +101,7 @@ neighboursRise w (x ∷ (y ∷ ys)) = riseTest w x y && neighboursRise w (y ∷ 
 unfoldable pub orderTest : List ℕ → List ℕ → Bool
 orderTest w xs = neighboursRise w (sortBy (cellLeq w 2 2) xs)
 
--- All lists by themselves, and the order.
+-- Every list passes its test, and cells of equal deadline rise.
 unfoldable pub sortTest : List ℕ → ℕ → ℕ → (ℕ → Ends) → Bool
 sortTest w n t ends = walkTest w n t ends && orderTest w (noted w n t ends 385)
 

@@ -48,7 +48,7 @@ fn mark_sound(first: &[u16], marks: &[u64], i: u64) -> bool
     e.first == 4096
 }
 
-// Whether each slot is marked so.
+// Whether every slot's mark is sound.
 fn marks_sound(first: &[u16], marks: &[u64]) -> bool
     ensures { λ r. ⌜ r ≡ allBelow 384 (markTest (now (first .entry)) (now (marks .entry))) ⌝ }
 {

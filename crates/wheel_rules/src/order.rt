@@ -18,7 +18,7 @@ fn pair_rises(w: &[u64], a: u16, b: u16) -> bool
     true
 }
 
-// Whether each two neighbours in a do.
+// Whether each two neighbours in a rise.
 fn all_rise(w: &[u64], a: &[u16]) -> bool
     ensures { λ r. ⌜ r ≡ neighboursRise (now (w .entry)) (now (a .entry)) ⌝ }
 {

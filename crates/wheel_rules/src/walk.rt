@@ -187,7 +187,8 @@ fn cells_rise(
     order_sound(w, &mut a[..m], &mut spare[..m])
 }
 
-// The same, with room of its own: for lists along which order numbers do not rise. It walks them once more.
+// Whether all lists are sound, and equal deadlines in them stand by rising order number: for lists along which order numbers do not all
+// rise. It walks them once more, with room of its own.
 pub fn sorted_rise(w: &[u64], first: &[u16], last: &[u16], d: Dial) -> bool
     ensures { λ r. ⌜ r ≡ sortTest (now (w .entry)) (d .store .cells) (d .clock)
         (endsIn (now (first .entry)) (now (last .entry)) (d .due)) ⌝ }
