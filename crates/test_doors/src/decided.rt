@@ -43,6 +43,11 @@ fn walk_told(n: Noted) -> u64 {
 
 // The walk along a wheel's lists, by the ends of its slots and its six numbers.
 #[no_mangle]
-pub extern "C" fn wastelquib_test_walked(w: &[u64], first: &[u16], last: &[u16], numbers: &[u64]) -> u64 {
+pub extern "C" fn wastelquib_test_walked(
+    w: &[u64],
+    first: &[u16],
+    last: &[u16],
+    numbers: &[u64],
+) -> u64 {
     walk_told(walked(w, first, last, dial_of(numbers)))
 }
