@@ -1,11 +1,27 @@
 // One pass over the cells: those in use are held to the rules of an entry and put into the tables, the free ones are counted.
 
 use crate::cell::entry_sound;
+use crate::table::EMPTY;
 use crate::table::Layout;
 use crate::table::enter_both;
 use cells::stack::is_free;
 ghost use Prim.Native.Nat.{_≤_, _<_};
 ghost use Rattle.audits.specs.Sweeping.{Visits, Swept};
+
+// The most cells for a small table: half as many as it has slots to begin at.
+const FEW: u64 = 512;
+
+// The most cells for a large table.
+const MOST: u64 = 4096;
+
+// The slots of a small table: 1,024 to begin at, and some behind the last of them.
+const SMALL_SLOTS: usize = 1088;
+
+// The slots of a large table: 8,192 to begin at, and some behind the last of them.
+const LARGE_SLOTS: usize = 8256;
+
+// How many steps past full slots the tables are given for each cell: more would cost what a sort costs.
+const STEPS: u64 = 4;
 
 // Whether the entries so far are sound, how many cells are free, and how many steps the tables have left: 0 where they gave up.
 pub struct Findings {
@@ -49,7 +65,7 @@ fn visit(
     }
 }
 
-// Goes over the first n cells with tables that are empty, and four steps for each cell: more would cost what a sort costs.
+// Goes over the first n cells, with tables that are empty.
 fn sweep(
     w: &[u64],
     n: u64,
@@ -65,7 +81,7 @@ fn sweep(
     let mut s = Findings {
         sound: true,
         free: 0,
-        left: n * 4 + 1,
+        left: n * STEPS + 1,
     };
     let mut c: u64 = 0;
     while c < n {
@@ -83,8 +99,8 @@ fn sweep_few(w: &[u64], n: u64, counter: u64, used: u64, scattered: bool) -> Fin
     requires { ⌜ n ≤ 4096 ⌝ }
     ensures { λ r. ⌜ Swept (now (w .entry)) n counter used r ⌝ }
 {
-    let mut t = [4096u16; 1088];
-    let mut u = [4096u16; 1088];
+    let mut t = [EMPTY; SMALL_SLOTS];
+    let mut u = [EMPTY; SMALL_SLOTS];
     let k = Layout {
         small: true,
         scattered,
@@ -97,8 +113,8 @@ fn sweep_many(w: &[u64], n: u64, counter: u64, used: u64, scattered: bool) -> Fi
     requires { ⌜ n ≤ 4096 ⌝ }
     ensures { λ r. ⌜ Swept (now (w .entry)) n counter used r ⌝ }
 {
-    let mut t = [4096u16; 8256];
-    let mut u = [4096u16; 8256];
+    let mut t = [EMPTY; LARGE_SLOTS];
+    let mut u = [EMPTY; LARGE_SLOTS];
     let k = Layout {
         small: false,
         scattered,
@@ -110,10 +126,10 @@ fn sweep_many(w: &[u64], n: u64, counter: u64, used: u64, scattered: bool) -> Fi
 pub fn swept(w: &[u64], n: u64, counter: u64, used: u64, scattered: bool) -> Findings
     ensures { λ r. ⌜ Swept (now (w .entry)) n counter used r ⌝ }
 {
-    if n <= 512 {
+    if n <= FEW {
         return sweep_few(w, n, counter, used, scattered);
     }
-    if n <= 4096 {
+    if n <= MOST {
         return sweep_many(w, n, counter, used, scattered);
     }
     Findings {

@@ -7,6 +7,33 @@ ghost use Prim.Native.Nat.{_<_};
 ghost use mathlib.Core.Path.{_≡_};
 ghost use Rattle.audits.specs.Tables.{evenly as evenlyOf, scattered as scatteredOf, spreadOf, startOf, Looks, Enters, EntersBoth};
 
+// An empty slot: no cell.
+pub const EMPTY: u16 = 4096;
+
+// What a 64-bit number's upper half counts.
+const HALF: u64 = 4294967296;
+
+// How many values a number is spread over: 2^31, so that the products below fit.
+const SPREAD: u64 = 2147483648;
+
+// The factor that spreads: that many values over the golden ratio, an odd number.
+const FACTOR: u64 = 1327217885;
+
+// What the upper half of a spread number counts.
+const LOW: u64 = 65536;
+
+// How many values that upper half has.
+const HIGH: u64 = 32768;
+
+// Added to the upper half, so that it is never 0 and small numbers are scattered too.
+const OFFSET: u64 = 40503;
+
+// How many spread values begin at one slot of a small table.
+const PER_SMALL_SLOT: u64 = 2097152;
+
+// How many begin at one slot of a large table.
+const PER_LARGE_SLOT: u64 = 262144;
+
 // A table of 1,024 slots, or of 8,192; and whether numbers are scattered over it, not only spread.
 pub struct Layout {
     pub small: bool,
@@ -18,14 +45,14 @@ pub struct Layout {
 fn evenly(key: u64) -> u64
     ensures { λ r. ⌜ r ≡ evenlyOf key ⌝ }
 {
-    (key % 4294967296 + key / 4294967296) * 1327217885 % 2147483648
+    (key % HALF + key / HALF) * FACTOR % SPREAD
 }
 
 // A spread number scattered by the product of its halves: numbers at equal distances, which the spread alone may crowd, fall as if by chance.
 fn scatter(x: u64) -> u64
     ensures { λ r. ⌜ r ≡ scatteredOf x ⌝ }
 {
-    x % 65536 * (x / 65536 % 32768 + 40503) * 1327217885 % 2147483648
+    x % LOW * (x / LOW % HIGH + OFFSET) * FACTOR % SPREAD
 }
 
 // A number as it is laid out over 31 bits.
@@ -43,9 +70,9 @@ fn start(k: Layout, key: u64) -> usize
     ensures { λ r. ⌜ r ≡ startOf k key ⌝ }
 {
     if k.small {
-        return (spread(k, key) / 2097152) as usize;
+        return (spread(k, key) / PER_SMALL_SLOT) as usize;
     }
-    (spread(k, key) / 262144) as usize
+    (spread(k, key) / PER_LARGE_SLOT) as usize
 }
 
 // Puts cell c, whose number is the key, into the first empty slot from slot i on, and says how many of the steps are left. It gives up, and says 0, at a
@@ -61,7 +88,7 @@ fn look_on(w: &[u64], f: u64, c: u64, key: u64, from: usize, t: &mut [u16], left
             return 0;
         }
         let d = t[i];
-        if d == 4096 {
+        if d == EMPTY {
             t[i] = c as u16;
             return rest;
         }
@@ -83,7 +110,7 @@ fn enter(w: &[u64], f: u64, c: u64, k: Layout, t: &mut [u16], left: u64) -> u64
     let i = start(k, key);
     if i < t.len() {
         let d = t[i];
-        if d == 4096 {
+        if d == EMPTY {
             t[i] = c as u16;
             return left;
         }
