@@ -21,3 +21,4 @@ pub mod WheelTimers
 pub mod ToldRefusals
 pub mod Unchanged
 pub mod OneOutcome
+pub mod AuditOutcomes
