@@ -200,7 +200,8 @@ module _ (w : List ℕ) (s : Store) (used free : ℕ) where
             record {
               exact = (
                 λ t.
-                    sounds (sym sized ∙ fits) (and-true (leb (s .cells) 4096) _ (sym (seen .test) ∙ keeps) .1) (sym stack-walked ∙ walked) d,
+                    sounds (sym sized ∙ fits) (and-true (leb (s .cells) 4096) _ (sym (seen .test) ∙ keeps) .1)
+                    (sym stack-walked ∙ walked) d,
                 λ h. refl,
               );
               count = seen .count keeps;
@@ -217,7 +218,8 @@ module _ (w : List ℕ) (s : Store) (used free : ℕ) where
 
 -- Whether the numbers differ, as the scattered tables tell it, and as the sort does.
 module _ (w : List ℕ) (s : Store) where
-  pub apart-tables : (used : ℕ) (r : Findings) → Swept w (s .cells) (s .counter) used r → r .sound ≡ true → 1 ≤ r .left → TellsApart w s true
+  pub apart-tables : (used : ℕ) (r : Findings) → Swept w (s .cells) (s .counter) used r → r .sound ≡ true → 1 ≤ r .left
+      → TellsApart w s true
   apart-tables used r seen e h = record { differ = λ t. seen .differ e h; found = λ m a b. refl }
 
   pub apart-sorted : (b : Bool) → b ≡ leb (s .cells) 4096 && differTest w (usedBelow w (s .cells)) → TellsApart w s b

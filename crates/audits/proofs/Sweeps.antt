@@ -54,7 +54,8 @@ module _ (w : List ℕ) (counter used : ℕ) (k : Layout) where
   unfolding allBelow frees sumBelow
   sweeping-none left t u = record { sound = refl; each = refl; count = refl; few = omega arith; held = held-none w k t u left }
 
-  pub sweeping-next : (c : ℕ) (s r : Findings) (t u t′ u′ : List ℕ) → Sweeping w counter used k c s t u → Visits w counter used k c s t u r t′ u′
+  pub sweeping-next : (c : ℕ) (s r : Findings) (t u t′ u′ : List ℕ) → Sweeping w counter used k c s t u
+      → Visits w counter used k c s t u r t′ u′
       → r .sound ≡ true
       → Sweeping w counter used k (c + 1) r t′ u′
   sweeping-next c s r t u t′ u′ at v e =

@@ -38,7 +38,8 @@ module _ (w : List ℕ) (f key : ℕ) (t : List ℕ) where
   pub passed-none : (i : ℕ) → Passed w f key t i i
   passed-none i = record { filled = λ s h l e. absurd (omega arith); other = λ s h l e. absurd (omega arith) }
 
-  passed-step : (i j : ℕ) → (getD t j 0 ≡ noCell → ⊥) → (word w (getD t j 0) f ≡ key → ⊥) → Passed w f key t i j → Passed w f key t i (j + 1)
+  passed-step : (i j : ℕ) → (getD t j 0 ≡ noCell → ⊥) → (word w (getD t j 0) f ≡ key → ⊥) → Passed w f key t i j
+      → Passed w f key t i (j + 1)
   passed-step i j full other p =
       record {
         filled = λ s h l e. same? s j (λ q. full (ap (λ (x : ℕ). getD t x 0) (sym q) ∙ e)) (λ n. p .filled s h (omega arith) e);
@@ -59,7 +60,8 @@ module _ (w : List ℕ) (f key i : ℕ) where
   pub looking-start : (t : List ℕ) → Looking w f key i t t i
   looking-start t = record { same = refl; from = omega arith; passed = passed-none w f key t i }
 
-  pub looking-step : (t₀ t : List ℕ) (j x : ℕ) → Looking w f key i t₀ t j → (getD t j 0 ≡ noCell → ⊥) → x ≡ word w (getD t j 0) f → (x ≡ key → ⊥)
+  pub looking-step : (t₀ t : List ℕ) (j x : ℕ) → Looking w f key i t₀ t j → (getD t j 0 ≡ noCell → ⊥) → x ≡ word w (getD t j 0) f
+      → (x ≡ key → ⊥)
       → Looking w f key i t₀ t (j + 1)
   looking-step t₀ t j x at full e other =
       record { same = at .same; from = omega (arith, at .from); passed = passed-step w f key t i j full (λ q. other (e ∙ q)) (at .passed) }
@@ -135,7 +137,10 @@ module _ (w : List ℕ) (f : ℕ) (k : Layout) (c : ℕ) (t : List ℕ) (s : ℕ
           differ =
               λ a b h l u v e.
               same? a c
-              (λ p. same? b c (λ q. p ∙ sym q) (λ q. absurd (sits-other b (omega arith) (table .sits b (omega arith) v) (sym e ∙ ap (λ (x : ℕ). word w x f) p))))
+              (λ p.
+              same? b c
+              (λ q. p ∙ sym q)
+              (λ q. absurd (sits-other b (omega arith) (table .sits b (omega arith) v) (sym e ∙ ap (λ (x : ℕ). word w x f) p))))
               (λ p.
               same? b c
               (λ q. absurd (sits-other a (omega arith) (table .sits a (omega arith) u) (e ∙ ap (λ (x : ℕ). word w x f) q)))
@@ -144,7 +149,8 @@ module _ (w : List ℕ) (f : ℕ) (k : Layout) (c : ℕ) (t : List ℕ) (s : ℕ
 
 -- By a look from the word's start on.
 module _ (w : List ℕ) (f : ℕ) (k : Layout) (c : ℕ) where
-  pub enters-looking : (t t′ : List ℕ) (key i given left : ℕ) → c < noCell → key ≡ word w c f → i ≡ startOf k key → Looks w f c key i t given left t′
+  pub enters-looking : (t t′ : List ℕ) (key i given left : ℕ) → c < noCell → key ≡ word w c f → i ≡ startOf k key
+      → Looks w f c key i t given left t′
       → Enters w f k c t given left t′
   enters-looking t t′ key i given left few e at look =
       record {
@@ -155,7 +161,8 @@ module _ (w : List ℕ) (f : ℕ) (k : Layout) (c : ℕ) where
             rw (l .put) (table-put w f k c t (l .slot) few (l .inside) (l .empty) (l .from) (l .passed) table);
       }
 
-  pub enters-at-once : (t : List ℕ) (key i given : ℕ) → c < noCell → key ≡ word w c f → i ≡ startOf k key → i < length t → getD t i 0 ≡ noCell
+  pub enters-at-once : (t : List ℕ) (key i given : ℕ) → c < noCell → key ≡ word w c f → i ≡ startOf k key → i < length t
+      → getD t i 0 ≡ noCell
       → Enters w f k c t given given (set t i c)
   enters-at-once t key i given few e at inside empty =
       enters-looking t (set t i c) key i given given few e at
@@ -193,7 +200,8 @@ module _ (w : List ℕ) (k : Layout) (c : ℕ) where
       record { fewer = omega arith; tickets = λ h table. table-free w 0 k c t e table; orders = λ h table. table-free w 1 k c u e table }
 
   pub both-stop : (t u : List ℕ) (given : ℕ) (t′ u′ : List ℕ) → EntersBoth w k c t u given 0 t′ u′
-  both-stop t u given t′ u′ = record { fewer = omega arith; tickets = λ h table. absurd (omega arith); orders = λ h table. absurd (omega arith) }
+  both-stop t u given t′ u′ =
+      record { fewer = omega arith; tickets = λ h table. absurd (omega arith); orders = λ h table. absurd (omega arith) }
 
 -- Where steps are left, the cells below c stand in both tables.
 pub record Held (w : List ℕ) (k : Layout) (c : ℕ) (t u : List ℕ) (left : ℕ) : Type 0 where
@@ -203,7 +211,8 @@ pub record Held (w : List ℕ) (k : Layout) (c : ℕ) (t u : List ℕ) (left : �
 pub held-none : (w : List ℕ) (k : Layout) (t u : List ℕ) (left : ℕ) → Held w k 0 t u left
 held-none w k t u left = record { tickets = λ h. table-none w 0 k t; orders = λ h. table-none w 1 k u }
 
-pub held-next : (w : List ℕ) (k : Layout) (c : ℕ) (t u t′ u′ : List ℕ) (given left : ℕ) → EntersBoth w k c t u given left t′ u′ → Held w k c t u given
+pub held-next : (w : List ℕ) (k : Layout) (c : ℕ) (t u t′ u′ : List ℕ) (given left : ℕ) → EntersBoth w k c t u given left t′ u′
+    → Held w k c t u given
     → Held w k (c + 1) t′ u′ left
 held-next w k c t u t′ u′ given left e v =
     record {

@@ -56,8 +56,8 @@ fn refused() -> Verdict
     }
 }
 
-// Whether the memory keeps to the rules that every engine shares, and how many cells are free, for engines that count their entries. An engine leaves the
-// fields of the mask `used` unused in a cell in use, those of `free` in a free one.
+// Whether the memory keeps to the rules that every engine shares, and how many cells are free, for engines that count their entries. An
+// engine leaves the fields of the mask `used` unused in a cell in use, those of `free` in a free one.
 pub fn audit_and_count(w: &[u64], s: Store, used: u64, free: u64) -> Verdict
     ensures { λ r. ⌜ Judged (now (w .entry)) s used free r ⌝ }
 {

@@ -18,7 +18,8 @@ fn clean(w: &[u64], c: u64, f: u64, rest: u64) -> bool
     true
 }
 
-// Whether those of the first four fields that are in the mask m are zero in cell c. An entry uses all four, so its mask has none of them: one look tells.
+// Whether those of the first four fields that are in the mask m are zero in cell c. An entry uses all four, so its mask has none of them:
+// one look tells.
 fn lower_blank(w: &[u64], m: u64, c: u64) -> bool
     ensures { λ r. ⌜ r ≡ allBelow 4 (fieldTest (now (w .entry)) m c) ⌝ }
 {

@@ -81,7 +81,8 @@ fn few_differ(w: &[u64], n: u64) -> bool
     used_distinct(w, n, &mut a, &mut spare)
 }
 
-// Whether the cells in use among the first n differ in their tickets, and in their order numbers, by sorting them. Of more than 4,096 cells it says no.
+// Whether the cells in use among the first n differ in their tickets, and in their order numbers, by sorting them. Of more than 4,096 cells
+// it says no.
 pub fn sorted_differ(w: &[u64], n: u64) -> bool
     ensures { λ r. ⌜ r ≡ leb n 4096 && differTest (now (w .entry)) (usedBelow (now (w .entry)) n) ⌝ }
 {

@@ -1,5 +1,5 @@
-// Tables of cells by their tickets and by their order numbers, which tell in one pass that these differ. A table may give up: then it says nothing, and
-// something slower decides.
+// Tables of cells by their tickets and by their order numbers, which tell in one pass that these differ. A table may give up: then it says
+// nothing, and something slower decides.
 
 use cell_sort::sort::word_of;
 use cells::words::get;
@@ -40,15 +40,16 @@ pub struct Layout {
     pub scattered: bool,
 }
 
-// A number spread over 31 bits by the golden ratio: numbers that follow each other fall far apart, and of as many as a table is to hold no two fall
-// into one slot. What lies above 32 bits is added, so that the product fits.
+// A number spread over 31 bits by the golden ratio: numbers that follow each other fall far apart, and of as many as a table is to hold no
+// two fall into one slot. What lies above 32 bits is added, so that the product fits.
 fn evenly(key: u64) -> u64
     ensures { λ r. ⌜ r ≡ evenlyOf key ⌝ }
 {
     (key % HALF + key / HALF) * FACTOR % SPREAD
 }
 
-// A spread number scattered by the product of its halves: numbers at equal distances, which the spread alone may crowd, fall as if by chance.
+// A spread number scattered by the product of its halves: numbers at equal distances, which the spread alone may crowd, fall as if by
+// chance.
 fn scatter(x: u64) -> u64
     ensures { λ r. ⌜ r ≡ scatteredOf x ⌝ }
 {
@@ -75,8 +76,8 @@ fn start(k: Layout, key: u64) -> usize
     (spread(k, key) / PER_LARGE_SLOT) as usize
 }
 
-// Puts cell c, whose number is the key, into the first empty slot from slot i on, and says how many of the steps are left. It gives up, and says 0, at a
-// cell with an equal number, at the table's end, and where no step is left.
+// Puts cell c, whose number is the key, into the first empty slot from slot i on, and says how many of the steps are left. It gives up, and
+// says 0, at a cell with an equal number, at the table's end, and where no step is left.
 fn look_on(w: &[u64], f: u64, c: u64, key: u64, from: usize, t: &mut [u16], left: u64) -> u64
     requires { ⌜ c < 4096 ⌝ }
     ensures { λ r. ⌜ Looks (now (w .entry)) f c key from (now (t .entry)) left r (now (t .exit)) ⌝ }
@@ -118,7 +119,8 @@ fn enter(w: &[u64], f: u64, c: u64, k: Layout, t: &mut [u16], left: u64) -> u64
     look_on(w, f, c, key, i, t, left)
 }
 
-// Puts cell c, one in use, into a table by its ticket and into another by its order number, and says how many of the steps are left: 0 where one gives up.
+// Puts cell c, one in use, into a table by its ticket and into another by its order number, and says how many of the steps are left: 0
+// where one gives up.
 pub fn enter_both(w: &[u64], c: u64, k: Layout, t: &mut [u16], u: &mut [u16], left: u64) -> u64
     ensures { λ r. ⌜ EntersBoth (now (w .entry)) k c (now (t .entry)) (now (u .entry)) left r (now (t .exit)) (now (u .exit)) ⌝ }
 {

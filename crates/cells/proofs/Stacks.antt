@@ -121,7 +121,8 @@ module _ (w : List ℕ) (n : ℕ) (also : ℕ → Bool) (top : ℕ) (small : n �
         cells = cells;
         linked = linked;
         once =
-            all-once w n small cells (all-map (λ c h. as-stands c h .0) cells (walks-all w (standsAs w n also) top (frees w n) e)) top linked
+            all-once w n small cells (all-map (λ c h. as-stands c h .0) cells (walks-all w (standsAs w n also) top (frees w n) e)) top
+            linked
             (length-follow (link w) top (frees w n));
       }
     where
@@ -132,7 +133,8 @@ module _ (w : List ℕ) (n : ℕ) (also : ℕ → Bool) (top : ℕ) (small : n �
       linked = walks-linked w (standsAs w n also) top (frees w n) e
 
   -- A walk over a list of linked cells shows that each of them passes.
-  chain-also : (a : ℕ) (cs : List ℕ) → Chain (link w) a cs → walks w (standsAs w n also) a (length cs) ≡ true → All (λ (c : ℕ). also c ≡ true) cs
+  chain-also : (a : ℕ) (cs : List ℕ) → Chain (link w) a cs → walks w (standsAs w n also) a (length cs) ≡ true
+      → All (λ (c : ℕ). also c ≡ true) cs
   unfolding walks
   chain-also a [] h e = tt
   chain-also a (c ∷ cs) h e =

@@ -37,7 +37,8 @@ module _ (w : List ℕ) where
         seat-unknown e = rw (← held) (rw (lt-ltb c n inside, sym free ∙ used, ← knows) (rw (ne-eqb k p e)))
 
         -- It is for the parent to say.
-        pub seat-behind : (r : Bool) (a b : ℕ) → k ≡ p → a ≡ word w c 2 → b ≡ word w c 1 → r ≡ ranked a b key order → not r ≡ heldTest w n p key order
+        pub seat-behind : (r : Bool) (a b : ℕ) → k ≡ p → a ≡ word w c 2 → b ≡ word w c 1 → r ≡ ranked a b key order
+            → not r ≡ heldTest w n p key order
         unfolding heldTest
         seat-behind r a b e x y q =
             rw (← held) (rw (lt-ltb c n inside, sym free ∙ used, ← knows) (rw (eq-eqb k p e, ← x, ← y) (ap not q)))

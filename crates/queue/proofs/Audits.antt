@@ -137,7 +137,8 @@ module _ (w : List ℕ) (h : Head) where
   sound-beyond q = each-below (beyondTest w (h .count)) (h .store .cells) (λ p l. rule-beyond w (h .count) p (λ k. q .beyond p k l))
 
   -- What passes all tests is sound.
-  tests-sound : headTest h ≡ true → Sound w (h .store) usedMask freeMask → countTest w h ≡ true → seatsTest ≡ true → beyondAll ≡ true → QueueSound w h
+  tests-sound : headTest h ≡ true → Sound w (h .store) usedMask freeMask → countTest w h ≡ true → seatsTest ≡ true → beyondAll ≡ true
+      → QueueSound w h
   unfolding countTest
   tests-sound a s n b t =
       let head : HeadRule h = head-rule h a in
@@ -197,7 +198,9 @@ module _ (w : List ℕ) (h : Head) where
       unfolding countTest
       fails-count n = (
         λ z. clash z refl,
-        λ q. absurd (n (omega (arith, eqb-true (h .count + frees w (h .store .cells)) (h .store .cells) (sound-count q), free-counted, q .fits))),
+        λ q.
+            let same = eqb-true (h .count + frees w (h .store .cells)) (h .store .cells) (sound-count q) in
+            absurd (n (omega (arith, same, free-counted, q .fits))),
       )
 
       module _ (a : Bool) (head : a ≡ headTest h) (fits : a ≡ true) (same : h .store .cells - h .count ≡ v .free) where

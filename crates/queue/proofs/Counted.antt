@@ -1,4 +1,5 @@
--- Each filled position holds a cell in use that knows it: so each cell in use stands at one exactly if there are as many of the one as of the other.
+-- Each filled position holds a cell in use that knows it: so each cell in use stands at one exactly if there are as many of the one as of
+-- the other.
 -- Assumes nothing.
 use Prim.Native.Nat.{ℕ, zero, suc, _+_, _≤_, _<_}
 use native.Mathlib.Omega.{arith}
@@ -113,7 +114,8 @@ module _ (w : List ℕ) (h : Head) (seats : (p : ℕ) → p < h .count → SeatR
   counted = length-times (h .store .cells) (seated w (h .count)) (all-below (h .count) (omega arith)) ∙ seated-length w (h .count)
 
   -- As many cells in use: each stands at one of the positions.
-  pub each-sits : h .count + frees w (h .store .cells) ≡ h .store .cells → (c : ℕ) → c < h .store .cells → inUse w c ≡ true → Sat w (h .count) c
+  pub each-sits : h .count + frees w (h .store .cells) ≡ h .store .cells → (c : ℕ) → c < h .store .cells → inUse w c ≡ true
+      → Sat w (h .count) c
   unfolding bit
   each-sits e c l u =
       let full : times c (seated w (h .count)) ≡ bit w c =

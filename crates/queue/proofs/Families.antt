@@ -48,10 +48,8 @@ module _ (w : List ℕ) (d : ℕ) (f : Family) where
 
 module _ (w : List ℕ) (d : ℕ) (wide : 1 ≤ d) where
   pub turn-root : Turn w d 0 (record { next = 0; left = 1; key = 0; order = 0 })
-  turn-root = record { place = omega (arith, mul-zero-right); few = wide; early = omega arith; root = λ e. (refl, refl); parents = λ q e. absurd (omega arith) }
-    where
-      mul-zero-right : d * 0 ≡ 0
-      mul-zero-right = omega arith
+  turn-root =
+      record { place = omega arith; few = wide; early = omega arith; root = λ e. (refl, refl); parents = λ q e. absurd (omega arith) }
 
   pub turn-own : (p : ℕ) (f g : Family) → g ≡ familyOf w d f → Turn w d p f → Own w d p g
   unfolding familyOf
@@ -68,7 +66,10 @@ module _ (w : List ℕ) (d : ℕ) (wide : 1 ≤ d) where
             few = omega arith;
             early = omega (arith, t .early);
             root = λ h. absurd (omega arith);
-            parents = λ q h. let same : f .next ≡ q = omega arith in (ap (λ (x : ℕ). seatAt w x .key) same, ap (λ (x : ℕ). seatAt w x .order) same);
+            parents =
+                λ q h.
+                let same : f .next ≡ q = omega arith in
+                (ap (λ (x : ℕ). seatAt w x .key) same, ap (λ (x : ℕ). seatAt w x .order) same);
           })
       go (suc k) z =
           let stays : g ≡ f = e ∙ rw (ne-eqb (f .left) 0 (λ h. omega (arith, h, z))) in
@@ -99,7 +100,8 @@ module _ (w : List ℕ) (d : ℕ) (wide : 1 ≤ d) where
   ranked-none x y = rw (le-ltb x 0 (omega arith), le-ltb y 0 (omega arith)) (and-false (eqb x 0))
 
   -- Held against its own family, a position is held against its parent.
-  pub own-behind : (p : ℕ) (f : Family) → Own w d p f → not (ranked (word w (word w p 6) 2) (word w (word w p 6) 1) (f .key) (f .order)) ≡ behindTest w d p
+  pub own-behind : (p : ℕ) (f : Family) → Own w d p f
+      → not (ranked (word w (word w p 6) 2) (word w (word w p 6) 1) (f .key) (f .order)) ≡ behindTest w d p
   unfolding behindTest seatAt
   own-behind p f t = go (f .next) refl
     where
@@ -111,7 +113,8 @@ module _ (w : List ℕ) (d : ℕ) (wide : 1 ≤ d) where
       go (suc k) z =
           let at = t .parents k (omega (arith, z)) in
           let times : d * f .next ≡ d * k + d = ap (λ (x : ℕ). d * x) z ∙ omega (arith, mul-add d k 1) in
-          let own : parent d p ≡ k = parent-of d wide k p (omega (arith, t .place, t .few, times)) (omega (arith, t .place, t .some, times)) in
+          let own : parent d p ≡ k =
+          parent-of d wide k p (omega (arith, t .place, t .few, times)) (omega (arith, t .place, t .some, times)) in
           let other : p ≡ 0 → ⊥ = λ h. omega (arith, t .place, t .few, times) in
           rw (at .0, at .1, ne-eqb p 0 other, own)
 

@@ -1,5 +1,5 @@
-// The ready queue's audit: the rules that every engine shares, then the heap's positions, each looked at once. Memory and head are any words whatever, so
-// that nothing public here has a `requires`.
+// The ready queue's audit: the rules that every engine shares, then the heap's positions, each looked at once. Memory and head are any
+// words whatever, so that nothing public here has a `requires`.
 
 use crate::head::Head;
 use audits::audit::audit_and_count;
@@ -15,8 +15,8 @@ ghost use Rattle.audits.specs.AuditTests.{allBelow};
 ghost use Rattle.queue.specs.Rules.{QueueSound};
 ghost use Rattle.queue.specs.AuditTests.{headTest, familyOf, heldTest, seatTest, beyondTest};
 
-// Whose children the positions in turn are: the next parent's position, how many children of the one before are left, and that one's key and order
-// number. Kept from position to position, so that no parent's place is divided out and none is read twice.
+// Whose children the positions in turn are: the next parent's position, how many children of the one before are left, and that one's key
+// and order number. Kept from position to position, so that no parent's place is divided out and none is read twice.
 pub struct Family {
     pub next: u64,
     pub left: u64,
@@ -41,7 +41,8 @@ fn family_of(w: &[u64], d: u64, f: Family) -> Family
     f
 }
 
-// Whether position p, a filled one, holds a cell in use of the first n that knows it and is not before a parent of this key and order number.
+// Whether position p, a filled one, holds a cell in use of the first n that knows it and is not before a parent of this key and order
+// number.
 fn seat_sound(w: &[u64], n: u64, p: u64, key: u64, order: u64) -> bool
     ensures { λ r. ⌜ r ≡ heldTest (now (w .entry)) n p key order ⌝ }
 {
@@ -108,8 +109,8 @@ fn head_sound(h: Head) -> bool
     false
 }
 
-// Whether head and memory keep to the rules. As many cells are in use as positions are filled, and each of these holds a cell in use that knows it: so
-// each entry stands at one of them.
+// Whether head and memory keep to the rules. As many cells are in use as positions are filled, and each of these holds a cell in use that
+// knows it: so each entry stands at one of them.
 pub fn audit(w: &[u64], h: Head) -> bool
     ensures { λ r. ⌜ (r ≡ true) ↔ QueueSound (now (w .entry)) h ⌝ }
 {

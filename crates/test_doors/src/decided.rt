@@ -18,8 +18,8 @@ fn told(f: Findings) -> u64 {
     2
 }
 
-// One pass over the cells, numbers evenly spread (`scattered` 0) or scattered as well: the cells and the counter as two numbers, the mask of the fields that
-// an entry leaves unused.
+// One pass over the cells, numbers evenly spread (`scattered` 0) or scattered as well: the cells and the counter as two numbers, the mask
+// of the fields that an entry leaves unused.
 #[no_mangle]
 pub extern "C" fn wastelquib_test_tables(
     w: &[u64],

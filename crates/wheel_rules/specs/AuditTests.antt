@@ -27,7 +27,8 @@ dialTest d = leb (d .store .counter) 18446744073709551615 && leb (d .clock) (las
 unfoldable pub arraysTest : List ℕ → List ℕ → List ℕ → Bool
 arraysTest first last marks = eqb (length first) 384 && (eqb (length last) 384 && eqb (length marks) 6)
 
--- "a slot is marked occupied exactly if its list isn't empty": of slot i, by its first cell. Its word of marks has 64 bits, as any in memory has.
+-- "a slot is marked occupied exactly if its list isn't empty": of slot i, by its first cell. Its word of marks has 64 bits, as any in
+-- memory has.
 unfoldable pub markTest : List ℕ → List ℕ → ℕ → Bool
 markTest first marks i =
     leb (getD marks (i / 64) 0) 18446744073709551615

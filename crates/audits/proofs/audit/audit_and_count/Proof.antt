@@ -36,7 +36,8 @@ refused-requires-2 : tie.Need-refused-requires-2
 refused-requires-2 c κs = search needs
 
 returns-2 : tie.Need-returns-2
-returns-2 c = refused-entry _ _ _ _ _ (c .refused2 .ensures) _ (c .before .before .before .swept .ensures) (not-true _ (c .before .if2 .taken))
+returns-2 c =
+    refused-entry _ _ _ _ _ (c .refused2 .ensures) _ (c .before .before .before .swept .ensures) (not-true _ (c .before .if2 .taken))
 
 stack-sound-requires : tie.Need-stack-sound-requires
 stack-sound-requires c κs = search needs
@@ -46,21 +47,30 @@ refused-requires-3 c κs = search needs
 
 returns-3 : tie.Need-returns-3
 returns-3 c =
-    refused-stack _ _ _ _ _ (c .before .before .before .before .before .swept .ensures) (not-false _ (c .before .before .before .if2 .left)) _ (c .before .before .stack-sound .ensures) _ (c .refused3 .ensures)
-    (not-true _ (c .before .if3 .taken))
+    let walk = c .before .before in
+    let seen = walk .before in
+    refused-stack _ _ _ _ _ (seen .before .before .swept .ensures) (not-false _ (seen .if2 .left)) _ (walk .stack-sound .ensures) _
+    (c .refused3 .ensures) (not-true _ (c .before .if3 .taken))
 
 returns-4 : tie.Need-returns-4
 returns-4 c =
-    accepted-tables _ _ _ _ _ (c .before .before .before .before .before .before .swept .ensures) (not-false _ (c .before .before .before .before .if2 .left)) _ (c .before .before .before .stack-sound .ensures) _
-    (c .before .before .before .before .before .before .before .before .size-sound .ensures) (not-false _ (c .before .before .before .before .before .before .before .if1 .left)) (not-false _ (c .before .before .if3 .left)) (search needs)
+    let walk = c .before .before .before in
+    let seen = walk .before in
+    let size = seen .before .before .before in
+    accepted-tables _ _ _ _ _ (seen .before .before .swept .ensures) (not-false _ (seen .if2 .left)) _ (walk .stack-sound .ensures) _
+    (size .before .size-sound .ensures) (not-false _ (size .if1 .left)) (not-false _ (c .before .before .if3 .left)) (search needs)
 
 numbers-differ-requires : tie.Need-numbers-differ-requires
 numbers-differ-requires c κs = search needs
 
 returns-5 : tie.Need-returns-5
 returns-5 c =
-    accepted-differ _ _ _ _ _ (c .before .before .before .before .before .before .before .before .swept .ensures) (not-false _ (c .before .before .before .before .before .before .if2 .left)) _ (c .before .before .before .before .before .stack-sound .ensures) _
-    (c .before .before .before .before .before .before .before .before .before .before .size-sound .ensures) (not-false _ (c .before .before .before .before .before .before .before .before .before .if1 .left)) (not-false _ (c .before .before .before .before .if3 .left)) _ (c .before .numbers-differ .ensures)
+    let ended = c .before .before .before .before in
+    let walk = ended .before in
+    let seen = walk .before in
+    let size = seen .before .before .before in
+    accepted-differ _ _ _ _ _ (seen .before .before .swept .ensures) (not-false _ (seen .if2 .left)) _ (walk .stack-sound .ensures) _
+    (size .before .size-sound .ensures) (not-false _ (size .if1 .left)) (not-false _ (ended .if3 .left)) _ (c .before .numbers-differ .ensures)
     (c .if5 .taken)
 
 refused-requires-4 : tie.Need-refused-requires-4

@@ -28,7 +28,8 @@ clean-requires c κs = search needs
 
 returns-2 : tie.Need-returns-2 Inv-loop μ-loop
 returns-2 c =
-    clear-fails _ _ _ _ _ (c .before .before .before .loop .inv .1) _ (c .before .clean .ensures) _ (search needs) (not-true _ (c .if2 .taken))
+    let at = c .before .before .before .loop .inv in
+    clear-fails _ _ _ _ _ (at .1) _ (c .before .clean .ensures) _ (search needs) (not-true _ (c .if2 .taken))
 
 add-f : tie.Need-add-f Inv-loop μ-loop
 add-f c = omega arith
@@ -38,7 +39,8 @@ loop-less c = omega arith
 
 loop-again : tie.Need-loop-again Inv-loop μ-loop
 loop-again c =
-    (omega arith, clear-next _ _ _ _ _ (c .before .before .before .loop .inv .1) _ (c .before .clean .ensures) (not-false _ (c .if2 .left)))
+    let at = c .before .before .before .loop .inv in
+    (omega arith, clear-next _ _ _ _ _ (at .1) _ (c .before .clean .ensures) (not-false _ (c .if2 .left)))
 
 returns-3 : tie.Need-returns-3 Inv-loop μ-loop
 returns-3 c = clear-all _ _ _ _ _ _ (omega arith) (c .before .loop .inv .1)

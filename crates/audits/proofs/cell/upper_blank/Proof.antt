@@ -27,7 +27,8 @@ clean-requires c κs = search needs
 returns : tie.Need-returns Inv-loop μ-loop
 unfolding blankTest
 returns c =
-    clear-fails _ _ _ _ _ (c .before .before .before .loop .inv .1) _ (c .before .clean .ensures) _ (search needs) (not-true _ (c .if1 .taken))
+    let at = c .before .before .before .loop .inv in
+    clear-fails _ _ _ _ _ (at .1) _ (c .before .clean .ensures) _ (search needs) (not-true _ (c .if1 .taken))
 
 add-f : tie.Need-add-f Inv-loop μ-loop
 add-f c = omega arith
@@ -37,7 +38,8 @@ loop-less c = omega arith
 
 loop-again : tie.Need-loop-again Inv-loop μ-loop
 loop-again c =
-    (omega arith, clear-next _ _ _ _ _ (c .before .before .before .loop .inv .1) _ (c .before .clean .ensures) (not-false _ (c .if1 .left)))
+    let at = c .before .before .before .loop .inv in
+    (omega arith, clear-next _ _ _ _ _ (at .1) _ (c .before .clean .ensures) (not-false _ (c .if1 .left)))
 
 returns-2 : tie.Need-returns-2 Inv-loop μ-loop
 unfolding blankTest

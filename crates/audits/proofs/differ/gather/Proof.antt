@@ -1,4 +1,5 @@
--- `audits::differ::gather` meets its contract. The invariant: the cells in use below c stand at the front, the rest of the array is as it was.
+-- `audits::differ::gather` meets its contract. The invariant: the cells in use below c stand at the front, the rest of the array is as it
+-- was.
 -- Assumes nothing.
 use Prim.Native.Nat.{ℕ, _-_, _≤_}
 use native.Mathlib.Omega.{arith}

@@ -14,7 +14,8 @@ use Rattle.audits.proofs.stack.stands.Reads as stands-reads
 use Rattle.cells.proofs.words.get.Reads as get-reads
 
 abbrev Inv-loop : tie.InvT-loop
-Inv-loop w n free top links c₀ left₀ c left = walks w (standsAs w n (blankTest w free)) top links ≡ walks w (standsAs w n (blankTest w free)) c left
+Inv-loop w n free top links c₀ left₀ c left =
+    walks w (standsAs w n (blankTest w free)) top links ≡ walks w (standsAs w n (blankTest w free)) c left
 
 abbrev μ-loop : tie.MeasureT-loop
 μ-loop w n free top links c₀ left₀ c left = left

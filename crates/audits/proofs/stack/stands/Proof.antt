@@ -19,7 +19,9 @@ blank-requires c κs = search needs
 
 returns : tie.Need-returns
 unfolding standsAs
-returns c = rw (stands-below _ _ _ (c .before .before .before .if1 .taken) ∙ sym (c .before .before .is-free .ensures) ∙ c .before .if2 .taken) (c .blank .ensures)
+returns c =
+    let free = c .before in
+    rw (stands-below _ _ _ (free .before .before .if1 .taken) ∙ sym (free .before .is-free .ensures) ∙ free .if2 .taken) (c .blank .ensures)
 
 returns-2 : tie.Need-returns-2
 unfolding standsAs

@@ -40,7 +40,9 @@ same-length-2 c = search needs
 
 returns : tie.Need-returns Inv-loop μ-loop
 returns c =
-    swept-broken _ _ _ _ _ _ _ _ _ _ _ _ (c .before .before .before .before .before .before .before .before .before .loop-test .taken) (c .before .before .before .before .before .before .visit .ensures) (not-true _ (c .if1 .taken))
+    let visit = c .before .before .before .before .before .before in
+    let turn = visit .before .before .before in
+    swept-broken _ _ _ _ _ _ _ _ _ _ _ _ (turn .loop-test .taken) (visit .visit .ensures) (not-true _ (c .if1 .taken))
 
 add-c : tie.Need-add-c Inv-loop μ-loop
 add-c c = search needs
@@ -50,9 +52,10 @@ loop-less c = search needs
 
 loop-again : tie.Need-loop-again Inv-loop μ-loop
 loop-again c =
-    let at = c .before .before .before .before .before .before .before .before .before .before .loop .inv in (
+    let visit = c .before .before .before .before .before .before in
+    let at = visit .before .before .before .before .loop .inv in (
       omega arith,
-      sweeping-next _ _ _ _ _ _ _ _ _ _ _ (at .1) (c .before .before .before .before .before .before .visit .ensures) (not-false _ (c .if1 .left)),
+      sweeping-next _ _ _ _ _ _ _ _ _ _ _ (at .1) (visit .visit .ensures) (not-false _ (c .if1 .left)),
       search needs,
       search needs,
     )

@@ -33,16 +33,16 @@ same-length-2 c = search needs
 
 returns-2 : tie.Need-returns-2
 returns-2 c =
-    let told = c .before .before .before .before .enter-both in
-    let entry = c .before .before .before .before .before .before .before .before .entry-sound in
-    let free = c .before .before .before .before .before .before .before .before .before .before .is-free in
-    visits-entry _ _ _ _ _ _ _ _ _ (free .ensures) _ (entry .ensures) (c .before .before .before .before .before .before .before .before .before .if1 .left)
-    _ _ _ (c .before .before .before .before .before .before .before .if2 .taken) (told .ensures)
+    let told = c .before .before .before .before in
+    let sound = told .before .before .before in
+    let free = sound .before .before in
+    visits-entry _ _ _ _ _ _ _ _ _ (free .before .is-free .ensures) _ (sound .before .entry-sound .ensures) (free .if1 .left) _ _ _
+    (sound .if2 .taken) (told .enter-both .ensures)
 
 returns-3 : tie.Need-returns-3
 returns-3 c =
-    visits-broken _ _ _ _ _ _ _ _ _ (c .before .before .before .is-free .ensures) _ (c .before .entry-sound .ensures) (c .before .before .if1 .left)
-    (c .if2 .left)
+    let free = c .before .before in
+    visits-broken _ _ _ _ _ _ _ _ _ (free .before .is-free .ensures) _ (c .before .entry-sound .ensures) (free .if1 .left) (c .if2 .left)
 
 pub visit-spec : {M : Type 1} → statement M
 visit-spec =

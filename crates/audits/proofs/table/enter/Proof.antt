@@ -36,8 +36,8 @@ same-length c = search needs
 
 returns : tie.Need-returns
 returns c =
-    enters-at-once _ _ _ _ _ _ _ _ (search needs) (c .before .before .before .before .get .ensures) (c .before .before .before .start .ensures)
-    (search needs) (search needs)
+    let begun = c .before .before .before in
+    enters-at-once _ _ _ _ _ _ _ _ (search needs) (begun .before .get .ensures) (begun .start .ensures) (search needs) (search needs)
 
 look-on-requires : tie.Need-look-on-requires
 look-on-requires c κs = search needs
@@ -47,8 +47,8 @@ same-length-2 c = search needs
 
 returns-2 : tie.Need-returns-2
 returns-2 c =
-    enters-looking _ _ _ _ _ _ _ _ _ _ (search needs) (c .before .before .before .before .before .before .get .ensures)
-    (c .before .before .before .before .before .start .ensures) (c .before .before .look-on .ensures)
+    let begun = c .before .before .before .before .before in
+    enters-looking _ _ _ _ _ _ _ _ _ _ (search needs) (begun .before .get .ensures) (begun .start .ensures) (c .before .before .look-on .ensures)
 
 pub enter-spec : {M : Type 1} → statement M
 enter-spec =

@@ -1,4 +1,5 @@
--- `audits::table::look_on` meets its contract. The invariant: the look has come to slot i past cells with other numbers, and the table is as it was.
+-- `audits::table::look_on` meets its contract. The invariant: the look has come to slot i past cells with other numbers, and the table is
+-- as it was.
 -- Assumes nothing.
 use Prim.Native.Nat.{_≤_}
 use native.Mathlib.Omega.{arith}

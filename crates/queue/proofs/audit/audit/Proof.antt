@@ -27,14 +27,19 @@ returns-2 : tie.Need-returns-2
 returns-2 c = fails-shared _ _ _ (c .before .before .audit-and-count .ensures) (not-true _ (c .if2 .taken))
 
 sub-if3 : tie.Need-sub-if3
-sub-if3 c = omega (arith, head-rule _ (sym (c .before .before .before .before .before .before .before .head-sound .ensures) ∙ not-false _ (c .before .before .before .before .before .before .if1 .left)) .fits)
+sub-if3 c =
+    let head = c .before .before .before .before .before .before in
+    omega (arith, head-rule _ (sym (head .before .head-sound .ensures) ∙ not-false _ (head .if1 .left)) .fits)
 
 returns-3 : tie.Need-returns-3
-returns-3 c = fails-count _ _ _ (c .before .before .before .before .before .before .audit-and-count .ensures) (not-false _ (c .before .before .before .before .if2 .left)) (search needs)
+returns-3 c =
+    let seen = c .before .before .before .before in
+    fails-count _ _ _ (seen .before .before .audit-and-count .ensures) (not-false _ (seen .if2 .left)) (search needs)
 
 seats-sound-requires : tie.Need-seats-sound-requires
 seats-sound-requires c κs =
-    omega (arith, head-rule _ (sym (c .before .before .before .before .before .before .before .before .before .head-sound .ensures) ∙ not-false _ (c .before .before .before .before .before .before .before .before .if1 .left)) .some)
+    let head = c .before .before .before .before .before .before .before .before in
+    omega (arith, head-rule _ (sym (head .before .head-sound .ensures) ∙ not-false _ (head .if1 .left)) .some)
 
 returns-4 : tie.Need-returns-4
 returns-4 c = fails-seats _ _ _ (c .before .seats-sound .ensures) (not-true _ (c .if4 .taken))
@@ -44,10 +49,11 @@ rest-blank-requires c κs = search needs
 
 returns-5 : tie.Need-returns-5
 returns-5 c =
-    let shared = c .before .before .before .before .before .before .before .before .before .audit-and-count in
-    let head = c .before .before .before .before .before .before .before .before .before .before .before .before .head-sound in
-    passes-all _ _ _ (shared .ensures) (not-false _ (c .before .before .before .before .before .before .before .if2 .left)) _ (head .ensures) (not-false _ (c .before .before .before .before .before .before .before .before .before .before .before .if1 .left)) (search needs)
-    _ _ (c .before .before .seats-sound .ensures) (not-false _ (c .before .if4 .left)) (c .rest-blank .ensures)
+    let seen = c .before .before .before .before .before .before .before in
+    let head = seen .before .before .before .before in
+    passes-all _ _ _ (seen .before .before .audit-and-count .ensures) (not-false _ (seen .if2 .left)) _ (head .before .head-sound .ensures)
+    (not-false _ (head .if1 .left)) (search needs) _ _ (c .before .before .seats-sound .ensures) (not-false _ (c .before .if4 .left))
+    (c .rest-blank .ensures)
 
 pub audit-spec : {M : Type 1} → statement M
 audit-spec =

@@ -29,7 +29,8 @@ get-requires c κs = search needs
 
 returns : tie.Need-returns Inv-loop μ-loop
 returns c =
-    sym (below-fails _ _ _ (search needs) (beyond-other _ _ _ _ (c .before .before .before .loop .inv .0) (c .before .get .ensures) (search needs)))
+    let at = c .before .before .before .loop .inv in
+    sym (below-fails _ _ _ (search needs) (beyond-other _ _ _ _ (at .0) (c .before .get .ensures) (search needs)))
 
 add-p : tie.Need-add-p Inv-loop μ-loop
 add-p c = search needs
@@ -38,11 +39,9 @@ loop-less : tie.Need-loop-less Inv-loop μ-loop
 loop-less c = search needs
 
 loop-again : tie.Need-loop-again Inv-loop μ-loop
-loop-again c = (
-  omega arith,
-  below-step _ _ (c .before .before .before .loop .inv .1)
-      (beyond-zero _ _ _ _ (c .before .before .before .loop .inv .0) (c .before .get .ensures) (search needs)),
-)
+loop-again c =
+    let at = c .before .before .before .loop .inv in
+    (omega arith, below-step _ _ (at .1) (beyond-zero _ _ _ _ (at .0) (c .before .get .ensures) (search needs)))
 
 returns-2 : tie.Need-returns-2 Inv-loop μ-loop
 returns-2 c = beyond-end _ _ _ _ (c .before .loop .inv .0) (search needs) (c .before .loop .inv .1)

@@ -42,7 +42,8 @@ returns c =
 
 sub-f : tie.Need-sub-f Inv-loop μ-loop
 sub-f c =
-    turn-own _ _ (search needs) _ _ _ (c .before .before .before .family-of .ensures) (c .before .before .before .before .before .loop .inv .1) .some
+    let family = c .before .before .before in
+    turn-own _ _ (search needs) _ _ _ (family .family-of .ensures) (family .before .before .loop .inv .1) .some
 
 add-p : tie.Need-add-p Inv-loop μ-loop
 add-p c = search needs
