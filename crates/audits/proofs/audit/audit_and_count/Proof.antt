@@ -70,8 +70,8 @@ returns-5 c =
     let seen = walk .before in
     let size = seen .before .before .before in
     accepted-differ _ _ _ _ _ (seen .before .before .swept .ensures) (not-false _ (seen .if2 .left)) _ (walk .stack-sound .ensures) _
-    (size .before .size-sound .ensures) (not-false _ (size .if1 .left)) (not-false _ (ended .if3 .left)) _ (c .before .numbers-differ .ensures)
-    (c .if5 .taken)
+    (size .before .size-sound .ensures) (not-false _ (size .if1 .left)) (not-false _ (ended .if3 .left)) _
+    (c .before .numbers-differ .ensures) (c .if5 .taken)
 
 refused-requires-4 : tie.Need-refused-requires-4
 refused-requires-4 c κs = search needs

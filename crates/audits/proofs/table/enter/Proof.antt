@@ -48,7 +48,8 @@ same-length-2 c = search needs
 returns-2 : tie.Need-returns-2
 returns-2 c =
     let begun = c .before .before .before .before .before in
-    enters-looking _ _ _ _ _ _ _ _ _ _ (search needs) (begun .before .get .ensures) (begun .start .ensures) (c .before .before .look-on .ensures)
+    enters-looking _ _ _ _ _ _ _ _ _ _ (search needs) (begun .before .get .ensures) (begun .start .ensures)
+    (c .before .before .look-on .ensures)
 
 pub enter-spec : {M : Type 1} → statement M
 enter-spec =
