@@ -40,7 +40,8 @@ returns-3 c =
     let knows = c .before .before .before .before in
     let free = knows .before in
     seat-behind _ _ _ _ _ _ (free .before .before .before .get .ensures) (search needs) _ (free .before .is-free .ensures)
-    (free .if2 .left) _ (knows .get2 .ensures) _ _ _ (search needs) (c .before .before .get3 .ensures) (c .before .get4 .ensures) (c .is-before .ensures)
+    (free .if2 .left) _ (knows .get2 .ensures) _ _ _ (search needs) (c .before .before .get3 .ensures) (c .before .get4 .ensures)
+    (c .is-before .ensures)
 
 returns-4 : tie.Need-returns-4
 returns-4 c =
