@@ -35,7 +35,7 @@ module _ (k : Layout) (key x : ℕ) (at : x ≡ spreadOf k key) where
 
 -- A look begins, and passes one slot more.
 module _ (w : List ℕ) (f key : ℕ) (t : List ℕ) where
-  pub passed-none : (i : ℕ) → Passed w f key t i i
+  passed-none : (i : ℕ) → Passed w f key t i i
   passed-none i = record { filled = λ s h l e. absurd (omega arith); other = λ s h l e. absurd (omega arith) }
 
   passed-step : (i j : ℕ) → (getD t j 0 ≡ noCell → ⊥) → (word w (getD t j 0) f ≡ key → ⊥) → Passed w f key t i j

@@ -174,8 +174,3 @@ counts-free w c count h e = rw (h, add-one c, e)
 pub counts-used : (w : List ℕ) (c count : ℕ) → count ≡ frees w c → isFree w c ≡ false → count ≡ frees w (c + 1)
 unfolding frees sumBelow
 counts-used w c count h e = rw (h, add-one c, e) (omega arith)
-
-pub frees-most : (w : List ℕ) (n : ℕ) → frees w n ≤ n
-unfolding frees sumBelow
-frees-most w zero = omega arith
-frees-most w (suc n) = test (isFree w n) (λ e. rw e (omega (arith, frees-most w n))) (λ e. rw e (omega (arith, frees-most w n)))

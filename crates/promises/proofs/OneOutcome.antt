@@ -1,8 +1,10 @@
--- "For every input the promise of a public call determines the answer, the head and each lent word": one outcome of every public call.
--- Of the engines' calls it is proved beside them: `one-checked` of Rattle.queue.proofs.Outcomes and of Rattle.wheel.proofs.Outcomes and `one-advance` of
--- Rattle.wheel.proofs.AdvanceOutcome, on any head and words; `one-quick` of both Outcomes where a model is shown (elsewhere quick calls are the listed exception).
--- The calls of cells, places, heap and slots, `list_of` and `at_clock` of dial, `read_line` and `next` of script, and both set-ups promise an equation for the
--- answer and one for each thing that they are lent: `one-equation`. The three audits promise an equivalence: `one-test`. Here is what is left.
+-- "For every input the promise of a public call determines the answer, the head and each lent word": one outcome of every public call. Of
+-- the engines' calls it is proved beside them: `one-checked` of Rattle.queue.proofs.Outcomes and of Rattle.wheel.proofs.Outcomes and
+-- `one-advance` of Rattle.wheel.proofs.AdvanceOutcome, on any head and words; `one-quick` of both Outcomes where a model is shown
+-- (elsewhere quick calls are the listed exception). The calls of cells, cell_sort, places, heap and slots, `list_of` and `at_clock` of
+-- dial, `read_line` and `next` of script, and both set-ups promise an equation for the answer and one for each thing that they are lent:
+-- `one-equation`. The three audits promise an equivalence: `one-test`; what their parts tell besides is in AuditOutcomes. Here is what is
+-- left.
 -- Assumes nothing.
 use Prim.Native.Nat.{ℕ}
 use mathlib.Core.Bool.{Bool, true, false}
@@ -52,7 +54,7 @@ one-test P true false e q = clash (q .1 (e .0 refl)) refl
 one-test P false true e q = clash (e .1 (q .0 refl)) refl
 one-test P false false e q = refl
 
--- `sort` of cells.
+-- `sort` of cell_sort.
 pub one-sort : (w : List ℕ) (f g : ℕ) (a spare a₁ spare₁ a₂ spare₂ : List ℕ) → SortDone w f g a spare a₁ spare₁ → SortDone w f g a spare a₂ spare₂
     → (a₁ ≡ a₂) × (spare₁ ≡ spare₂)
 one-sort w f g a spare a₁ spare₁ a₂ spare₂ p q = (p .list ∙ sym (q .list), p .room ∙ sym (q .room))

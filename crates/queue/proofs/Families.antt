@@ -1,9 +1,9 @@
 -- The parents in turn: each position is held against its own parent.
 -- Assumes nothing.
-use Prim.Native.Nat.{ℕ, zero, suc, _+_, _*_, _-_, _≤_, _<_}
+use Prim.Native.Nat.{ℕ, zero, suc, _+_, _*_, _-_, _≤_}
 use native.Mathlib.Nat.{mul-add}
 use native.Mathlib.Omega.{arith}
-use mathlib.Core.Bool.{Bool, true, false, not, _&&_}
+use mathlib.Core.Bool.{Bool, false, not, _&&_}
 use mathlib.Core.List.{List}
 use mathlib.Core.Path.{_≡_, refl, sym, ap, _∙_}
 use lib.Dec.{ltb, eqb}
@@ -100,7 +100,7 @@ module _ (w : List ℕ) (d : ℕ) (wide : 1 ≤ d) where
   ranked-none x y = rw (le-ltb x 0 (omega arith), le-ltb y 0 (omega arith)) (and-false (eqb x 0))
 
   -- Held against its own family, a position is held against its parent.
-  pub own-behind : (p : ℕ) (f : Family) → Own w d p f
+  own-behind : (p : ℕ) (f : Family) → Own w d p f
       → not (ranked (word w (word w p 6) 2) (word w (word w p 6) 1) (f .key) (f .order)) ≡ behindTest w d p
   unfolding behindTest seatAt
   own-behind p f t = go (f .next) refl

@@ -29,7 +29,8 @@ seatTest w d n p =
     ltb (word w p 6) n
     && (not (isFree w (word w p 6)) && (eqb (word w (word w p 6) 5) p && behindTest w d p))
 
--- The same, held against a parent of this key and order number.
+-- A filled position p holds a cell in use of the first n, which knows that position and is not before a parent of this key and order
+-- number.
 unfoldable pub heldTest : List ℕ → ℕ → ℕ → ℕ → ℕ → Bool
 heldTest w n p key order =
     ltb (word w p 6) n
