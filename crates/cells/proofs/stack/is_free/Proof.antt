@@ -11,5 +11,5 @@ returns : tie.Need-returns
 unfolding is_free
 returns c = rw c.get.ensures
 
-pub is-free-spec : {M : Type 1} → statement M
-is-free-spec = tie.close (tie.spec get-requires returns)
+pub is_free_spec : {M : Type 1} → statement M
+is_free_spec = tie.close (tie.spec get-requires returns)

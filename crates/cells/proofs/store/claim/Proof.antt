@@ -34,29 +34,29 @@ module _ (w : List ℕ) (s : Store) (key load : ℕ) where
       let e = claim-taken w s key load (free-some s h) (spent-no s k) in
       (sym e.0, (rw below (sym e.1), words ∙ sym e.2))
 
-returns : tie.Need-returns
+returns : tie.Need-returns-then-top-s
 returns c = full _ _ _ _ (search rules)
 
-returns-2 : tie.Need-returns-2
+returns-2 : tie.Need-returns-then-k
 returns-2 c = none_left _ _ _ _ (search rules) (search rules)
 
-get-requires : tie.Need-get-requires
+get-requires : tie.Need-get-below-requires
 get-requires c κs = search rules
 
 enter-requires : tie.Need-enter-requires
 enter-requires c κs = search rules
 
-add-t17 : tie.Need-overflow-add-t17
+add-t17 : tie.Need-overflow_add-result
 add-t17 c = search rules
 
-same_length : tie.Need-same-length
+same_length : tie.Need-shape_of-w
 same_length c = search rules
 
-returns-3 : tie.Need-returns-3
+returns-3 : tie.Need-returns
 returns-3 c =
-    taken _ _ _ _ (search rules) (search rules) c.before.before.before.before.get.ensures c.before.before.enter.ensures
+    taken _ _ _ _ (search rules) (search rules) c.get-below.ensures c.enter.ensures
 
-pub claim-spec : {M : Type 1} → statement M
-claim-spec =
+pub claim_spec : {M : Type 1} → statement M
+claim_spec =
     tie.close
     (tie.spec returns returns-2 get-requires enter-requires add-t17 same_length returns-3)

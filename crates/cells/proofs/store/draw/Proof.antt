@@ -18,14 +18,14 @@ drawn :
     → (draw.Number s.counter ≡ draw_answer s) × (record { cells = s.cells; free = s.free; counter = s.counter + 1 } ≡ draw_store s)
 drawn s h = let e = draw-taken s (spent-no s h) in (sym e.0, sym e.1)
 
-returns : tie.Need-returns
+returns : tie.Need-returns-then-number
 returns c = refused _ (search rules)
 
-add-t6 : tie.Need-overflow-add-t6
+add-t6 : tie.Need-overflow_add-result
 add-t6 c = search rules
 
-returns-2 : tie.Need-returns-2
+returns-2 : tie.Need-returns
 returns-2 c = drawn _ (search rules)
 
-pub draw-spec : {M : Type 1} → statement M
-draw-spec = tie.close (tie.spec returns add-t6 returns-2)
+pub draw_spec : {M : Type 1} → statement M
+draw_spec = tie.close (tie.spec returns add-t6 returns-2)

@@ -35,7 +35,7 @@ put-requires-4 c κs = search rules
 put-requires-5 : tie.Need-put-requires-5
 put-requires-5 c κs = search rules
 
-same_length : tie.Need-same-length
+same_length : tie.Need-shape_of-w
 same_length c = search rules
 
 returns : tie.Need-returns
@@ -45,7 +45,7 @@ returns c =
     let p₃ = p₄.before.before.before.before in
     let p₂ = p₃.before.before.before.before in
     let p₁ = p₂.before.before.before.before in
-    writes _ _ _ _ _ p₁.put.ensures p₂.put2.ensures p₃.put3.ensures p₄.put4.ensures p₅.put5.ensures
+    writes _ _ _ _ _ p₁.put.ensures p₂.put-2.ensures p₃.put-3.ensures p₄.put-4.ensures p₅.put-5.ensures
 
 pub enter_spec : {M : Type 1} → statement M
 enter_spec =

@@ -5,17 +5,17 @@ use borrow.Author.Rules.{rules}
 use Rattle.cells.proofs.store.names.Statement.{statement}
 use Rattle.cells.proofs.store.names.Tie as tie
 
-returns : tie.Need-returns
+returns : tie.Need-returns-then-c-s
 returns c = sym (handle-past _ _ _ _ (search rules))
 
-get-requires : tie.Need-get-requires
+get-requires : tie.Need-get-ticket-requires
 get-requires c κs = search rules
 
-returns-2 : tie.Need-returns-2
+returns-2 : tie.Need-returns-then-ticket-eq0
 returns-2 c = sym (handle-free _ _ _ _ (search rules) (search rules))
 
-returns-3 : tie.Need-returns-3
-returns-3 c = rw c.before.get.ensures (sym (handle-used _ _ _ _ (search rules) (search rules)))
+returns-3 : tie.Need-returns
+returns-3 c = rw c.get-ticket.ensures (sym (handle-used _ _ _ _ (search rules) (search rules)))
 
-pub names-spec : {M : Type 1} → statement M
-names-spec = tie.close (tie.spec returns get-requires returns-2 returns-3)
+pub names_spec : {M : Type 1} → statement M
+names_spec = tie.close (tie.spec returns get-requires returns-2 returns-3)

@@ -32,7 +32,7 @@ put-requires-2 c κs = search rules
 put-requires-3 : tie.Need-put-requires-3
 put-requires-3 c κs = search rules
 
-same_length : tie.Need-same-length
+same_length : tie.Need-shape_of-w
 same_length c = search rules
 
 returns : tie.Need-returns
@@ -42,7 +42,7 @@ returns c =
     let p₃ = p₄.before.before.before.before in
     let p₂ = p₃.before.before.before.before in
     let p₁ = p₂.before.before.before.before in
-    (refl, writes _ _ _ p₁.wipe.ensures p₂.put.ensures p₃.put2.ensures p₄.put3.ensures)
+    (refl, writes _ _ _ p₁.wipe.ensures p₂.put.ensures p₃.put-2.ensures p₄.put-3.ensures)
 
 pub release_spec : {M : Type 1} → statement M
 release_spec =

@@ -21,20 +21,20 @@ ready :
     → (set_up.Ready (record { cells = length w / 8; free = 0; counter = 1 }) ≡ set_up_answer w) × (w' ≡ set_up_words w)
 ready w w' h words = let e = set-up-right w h in (sym e.0, words ∙ sym e.1)
 
-returns : tie.Need-returns
+returns : tie.Need-returns-then-n-eq0
 returns c = refused _ (size_none _ (search rules))
 
-returns-2 : tie.Need-returns-2
+returns-2 : tie.Need-returns-then-n-gt4096
 returns-2 c = refused _ (size-over _ (search rules))
 
-write-fresh-requires : tie.Need-write-fresh-requires
+write-fresh-requires : tie.Need-write_fresh-requires
 write-fresh-requires c κs = search rules
 
-same_length : tie.Need-same-length
+same_length : tie.Need-shape_of-w
 same_length c = search rules
 
-returns-3 : tie.Need-returns-3
-returns-3 c = ready _ _ (size-right _ (search rules) (search rules)) c.before.before.write-fresh.ensures
+returns-3 : tie.Need-returns
+returns-3 c = ready _ _ (size-right _ (search rules) (search rules)) c.write_fresh.ensures
 
-pub set-up-spec : {M : Type 1} → statement M
-set-up-spec = tie.close (tie.spec returns returns-2 write-fresh-requires same_length returns-3)
+pub set_up_spec : {M : Type 1} → statement M
+set_up_spec = tie.close (tie.spec returns returns-2 write-fresh-requires same_length returns-3)

@@ -31,7 +31,7 @@ put-requires-3 c κs = search rules
 put-requires-4 : tie.Need-put-requires-4
 put-requires-4 c κs = search rules
 
-same_length : tie.Need-same-length
+same_length : tie.Need-shape_of-w
 same_length c = search rules
 
 returns : tie.Need-returns
@@ -40,9 +40,9 @@ returns c =
     let p₃ = p₄.before.before.before.before in
     let p₂ = p₃.before.before.before.before in
     let p₁ = p₂.before.before.before.before in
-    writes _ _ p₁.put.ensures p₂.put2.ensures p₃.put3.ensures p₄.put4.ensures
+    writes _ _ p₁.put.ensures p₂.put-2.ensures p₃.put-3.ensures p₄.put-4.ensures
 
-pub wipe-spec : {M : Type 1} → statement M
-wipe-spec =
+pub wipe_spec : {M : Type 1} → statement M
+wipe_spec =
     tie.close
     (tie.spec put-requires put-requires-2 put-requires-3 put-requires-4 same_length returns)

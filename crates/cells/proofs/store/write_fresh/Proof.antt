@@ -11,10 +11,10 @@ use borrow.Author.Rules.{rules}
 use Rattle.cells.proofs.store.write_fresh.Statement.{statement}
 use Rattle.cells.proofs.store.write_fresh.Tie as tie
 
-abbrev invariant-loop : tie.invariant-loop
+abbrev invariant-loop : tie.invariant-loop-j
 invariant-loop w₀ n j₀ w j = (w ≡ filled w₀ j) × (j ≤ length w₀ / 8 * 8) × (length w ≡ length w₀)
 
-abbrev decreases-loop : tie.decreases-loop
+abbrev decreases-loop : tie.decreases-loop-j
 decreases-loop w₀ n j₀ w j = length w₀ / 8 * 8 - j
 
 turn :
@@ -32,38 +32,38 @@ done w₀ w j i h =
     let e : j ≡ length w₀ / 8 * 8 = omega arith in
     i.0 ∙ ap (λ (k : ℕ). filled w₀ k) e ∙ filled-all w₀
 
-loop-holds : tie.Need-loop-init invariant-loop decreases-loop
+loop-holds : tie.Need-loop-j-init invariant-loop decreases-loop
 loop-holds c = (filled_none _, omega arith, refl)
 
-mul-loop : tie.Need-overflow-mul-loop invariant-loop decreases-loop
+mul-loop : tie.Need-overflow_mul-n invariant-loop decreases-loop
 mul-loop c = omega arith
 
-fresh-word-requires : tie.Need-fresh-word-requires invariant-loop decreases-loop
+fresh-word-requires : tie.Need-fresh_word-requires invariant-loop decreases-loop
 fresh-word-requires c κs = search rules
 
-mul-w : tie.Need-overflow-mul-w invariant-loop decreases-loop
+mul-w : tie.Need-offset_bounds-w-j invariant-loop decreases-loop
 mul-w c = omega arith
 
-slice-write-w : tie.Need-slice-write-w invariant-loop decreases-loop
+slice-write-w : tie.Need-bounds-w-j invariant-loop decreases-loop
 slice-write-w c = omega arith
 
-add-j : tie.Need-overflow-add-j invariant-loop decreases-loop
+add-j : tie.Need-overflow_add-j invariant-loop decreases-loop
 add-j c = omega arith
 
-loop-less : tie.Need-loop-smaller invariant-loop decreases-loop
+loop-less : tie.Need-loop-j-smaller invariant-loop decreases-loop
 loop-less c = omega arith
 
-loop-again : tie.Need-loop-preserved invariant-loop decreases-loop
-loop-again c = turn _ _ _ _ c.before.before.loop.invariant (search rules) c.fresh-word.ensures
+loop-again : tie.Need-loop-j-preserved invariant-loop decreases-loop
+loop-again c = turn _ _ _ _ c.loop-j.invariant (search rules) c.fresh_word.ensures
 
-same_length : tie.Need-same-length invariant-loop decreases-loop
+same_length : tie.Need-shape_of-w invariant-loop decreases-loop
 same_length c = search rules
 
 returns : tie.Need-returns invariant-loop decreases-loop
-returns c = done _ _ _ c.before.loop.invariant (search rules)
+returns c = done _ _ _ c.loop-j.invariant (search rules)
 
-pub write-fresh-spec : {M : Type 1} → statement M
-write-fresh-spec =
+pub write_fresh_spec : {M : Type 1} → statement M
+write_fresh_spec =
     tie.close
     (tie.spec
     invariant-loop
