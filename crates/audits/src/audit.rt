@@ -11,7 +11,7 @@ use crate::sweep::swept;
 use cells::store::Store;
 
 // Whether memory is sound, and how many of its cells are free then: 0 where it is not.
-#[derive(Drop)]
+#[derive(Clone, Copy)]
 pub struct Verdict {
     pub sound: bool,
     pub free: u64,

@@ -23,7 +23,7 @@ const LARGE_SLOTS: usize = 8256;
 const STEPS: u64 = 4;
 
 // Whether the entries so far are sound, how many cells are free, and how many steps the tables have left: 0 where they gave up.
-#[derive(Drop)]
+#[derive(Clone, Copy)]
 pub struct Findings {
     pub sound: bool,
     pub free: u64,

@@ -35,7 +35,7 @@ const PER_SMALL_SLOT: u64 = 2097152;
 const PER_LARGE_SLOT: u64 = 262144;
 
 // A table of 1,024 slots, or of 8,192; and whether numbers are scattered over it, not only spread.
-#[derive(Drop)]
+#[derive(Clone, Copy)]
 pub struct Layout {
     pub small: bool,
     pub scattered: bool,

@@ -21,39 +21,39 @@ ghost use Rattle.cells.specs.Store.{
 use crate::words::{get, put};
 
 // The number of cells, the top of the free stack or 4096 where it is empty, and the counter.
-#[derive(Drop)]
+#[derive(Clone, Copy)]
 pub struct Store {
     pub cells: u64,
     pub free: u64,
     pub counter: u64,
 }
 
-#[derive(Drop)]
+#[derive(Clone, Copy)]
 pub enum SetUp {
     Refused(u64),
     Ready(Store),
 }
 
-#[derive(Drop)]
+#[derive(Clone, Copy)]
 pub enum DrawAnswer {
     Refused(u64),
     Number(u64),
 }
 
-#[derive(Drop)]
+#[derive(Clone, Copy)]
 pub struct Drawn {
     pub answer: DrawAnswer,
     pub store: Store,
 }
 
 // Taken holds the cell and the ticket: a handle.
-#[derive(Drop)]
+#[derive(Clone, Copy)]
 pub enum ClaimAnswer {
     Refused(u64),
     Taken(u64, u64),
 }
 
-#[derive(Drop)]
+#[derive(Clone, Copy)]
 pub struct Claimed {
     pub answer: ClaimAnswer,
     pub store: Store,

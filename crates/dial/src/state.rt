@@ -6,7 +6,7 @@ use cells::store::Store;
 use slots::ring::Ends;
 
 // The numbers of a wheel's head: the clock, the due list's ends, and the cell store's head.
-#[derive(Drop)]
+#[derive(Clone, Copy)]
 pub struct Dial {
     pub clock: u64,
     pub due: Ends,
@@ -14,7 +14,7 @@ pub struct Dial {
 }
 
 // The clock, the due list's ends, the cell store's head, the records in the output, and the moves made.
-#[derive(Drop)]
+#[derive(Clone, Copy)]
 pub struct Turn {
     pub clock: u64,
     pub due: Ends,
@@ -24,14 +24,14 @@ pub struct Turn {
 }
 
 // Broken: the memory is no wheel's, and the turns ran out.
-#[derive(Drop)]
+#[derive(Clone, Copy)]
 pub enum HowEnded {
     Done,
     More,
     Broken,
 }
 
-#[derive(Drop)]
+#[derive(Clone, Copy)]
 pub struct TurnsEnded {
     pub turn: Turn,
     pub ending: HowEnded,

@@ -26,7 +26,7 @@ ghost use Rattle.heap.specs.Seats.{
 use cells::words::{get, put};
 
 // Who stands at a position.
-#[derive(Drop)]
+#[derive(Clone, Copy)]
 pub struct Seat {
     pub position: u64,
     pub cell: u64,

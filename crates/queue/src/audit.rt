@@ -14,7 +14,7 @@ use heap::seats::{is_before, look};
 
 // Whose children the positions in turn are: the next parent's position, how many children of the one before are left, and that one's key
 // and order number. Kept from position to position, so that no parent's place is divided out and none is read twice.
-#[derive(Drop)]
+#[derive(Clone, Copy)]
 pub struct Family {
     pub next: u64,
     pub left: u64,

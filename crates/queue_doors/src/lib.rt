@@ -6,21 +6,21 @@ use queue::in_place::{put, rekey, remove, take};
 use queue::setup::set_up;
 
 // Where a trace stands: the queue's head, and the sum of what came out.
-#[derive(Drop)]
+#[derive(Clone, Copy)]
 struct Run {
     head: Head,
     sum: u64,
 }
 
 // An operation: its kind, the slot of its handle, and its key.
-#[derive(Drop)]
+#[derive(Clone, Copy)]
 struct Operation {
     kind: u64,
     slot: u64,
     key: u64,
 }
 
-#[derive(Drop)]
+#[derive(Clone, Copy)]
 struct Handle {
     cell: u64,
     ticket: u64,

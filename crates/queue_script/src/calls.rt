@@ -13,7 +13,7 @@ use queue::head::Head;
 use queue::quick;
 
 // What a command leaves: where its answer ends in the output, and the queue's head.
-#[derive(Drop)]
+#[derive(Clone, Copy)]
 pub struct Said {
     pub end: usize,
     pub head: Head,

@@ -8,7 +8,7 @@ ghost use Rattle.queue_script.specs.Runs.{opening_of};
 use script::reading::{Read, read_line};
 
 // Each command with its numbers, in the order of the line.
-#[derive(Drop)]
+#[derive(Clone, Copy)]
 pub enum Command {
     Bad,
     Queue(u64, u64),
@@ -20,7 +20,7 @@ pub enum Command {
 }
 
 // What a first line sets up: a queue of so many cells and an arity, or nothing.
-#[derive(Drop)]
+#[derive(Clone, Copy)]
 pub enum Opening {
     Wrong,
     Queue(u64, u64),

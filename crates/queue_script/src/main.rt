@@ -79,7 +79,7 @@ fn answer_lines(s: &[u8], out: &mut [u8], w: &mut [u64], session: Session) -> Tu
 }
 
 // What a chunk leaves: how many bytes are held at the front of the buffer, whether to read on, and where the run stands.
-#[derive(Drop)]
+#[derive(Clone, Copy)]
 struct Step {
     held: usize,
     more: bool,

@@ -7,7 +7,7 @@ ghost use Rattle.script.specs.Steps.{one_digit, word_field, number_field, none a
 use crate::scan::next;
 
 // A line as it is read: no line of the grammar, or its word as a base-256 number, how many numbers follow, and these, 0 where absent.
-#[derive(Drop)]
+#[derive(Clone, Copy)]
 pub enum Read {
     Bad,
     Line {
@@ -20,14 +20,14 @@ pub enum Read {
 }
 
 // One field as it is read.
-#[derive(Drop)]
+#[derive(Clone, Copy)]
 enum Field {
     Bad,
     Value(u64),
 }
 
 // The numbers read so far.
-#[derive(Drop)]
+#[derive(Clone, Copy)]
 struct Numbers {
     count: u64,
     a: u64,

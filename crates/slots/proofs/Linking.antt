@@ -5,7 +5,7 @@ use native.Mathlib.Omega.{arith}
 use mathlib.Core.Bool.{cond}
 use mathlib.Core.List.{List, [], ◌∷◌, ◌++◌, append-nil}
 use mathlib.Core.Logic.{◌≢◌}
-use mathlib.Core.Path.{◌≡◌, refl, sym, ap, ◌∙◌}
+use mathlib.Core.Path.{◌≡◌, refl, sym, ap, subst, ◌∙◌}
 use lib.Dec.{eqb}
 use borrow.Author.Tests.{eq-eqb, ne_eqb}
 use Rattle.cells.proofs.Cases.{same?}
@@ -198,7 +198,7 @@ module _ (N P N' P' : ℕ → ℕ) where
     linked-end a (x ∷ xs) b e once nq h =
         let other : a ≢ p =
         λ s.
-        let here : 1 ≤ times p (x ∷ xs) = rw e at (linked-last N P x xs b h.2) in
+        let here : 1 ≤ times p (x ∷ xs) = subst (λ (k : ℕ). 1 ≤ times k (x ∷ xs)) e (linked-last N P x xs b h.2) in
         omega (arith, once p, times-here p a (x ∷ xs) s, here)
         in (
           r.next-else a other ∙ h.0,
@@ -246,7 +246,7 @@ linked-leave N P N' P' a xs c [] b p q e f r once end h =
 linked-leave N P N' P' a xs c (y ∷ ys) b p q e f r once end h =
     let parts = linked-cut N P a xs c (y ∷ ys) b h in
     let s : y ≡ q = sym parts.1.0 ∙ f in
-    let inside : 1 ≤ times p (a ∷ xs) = rw e at (linked-last N P a xs c parts.0) in
+    let inside : 1 ≤ times p (a ∷ xs) = subst (λ (k : ℕ). 1 ≤ times k (a ∷ xs)) e (linked-last N P a xs c parts.0) in
     let there : times q (y ∷ ys) ≡ suc (times q ys) = times-here q y ys s in
     let other : b ≢ q =
     λ u. omega (arith, end, times-append b xs (c ∷ (y ∷ ys)), times-here b y ys (s ∙ sym u))

@@ -9,7 +9,7 @@ ghost use Rattle.slots.specs.Rings.{relinked, joined, left};
 use cells::words::{get, put};
 
 // The first and the last cell, 4096 for both where the list is empty.
-#[derive(Drop)]
+#[derive(Clone, Copy)]
 pub struct Ends {
     pub first: u64,
     pub last: u64,

@@ -209,7 +209,7 @@ pub fn marks_at(marks: &[u64], p: u64) -> u64
 }
 
 // Where a search for the lowest digit 1 stands: so many digits passed, and the number from there on.
-#[derive(Drop)]
+#[derive(Clone, Copy)]
 struct Passed {
     digits: u64,
     rest: u64,

@@ -1,7 +1,7 @@
 // Reading and writing of lent slices, and answers as plain numbers.
 
 // An answer: its kind, 0 where it is refused, and its numbers; the number of a refusal is the first.
-#[derive(Drop)]
+#[derive(Clone, Copy)]
 pub struct Told {
     pub kind: u64,
     pub a: u64,

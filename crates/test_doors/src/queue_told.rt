@@ -7,7 +7,7 @@ use queue::head::{
 };
 
 // What a call answers, and the head that it hands back.
-#[derive(Drop)]
+#[derive(Clone, Copy)]
 pub struct Turn {
     pub told: Told,
     pub head: Head,

@@ -6,7 +6,7 @@ use wheel::in_place::{advance, arm, cancel, move_to};
 use wheel::setup::set_up;
 
 // Where a trace stands: the wheel's numbers, a sum of what came out in which order counts, and one in which it does not.
-#[derive(Drop)]
+#[derive(Clone, Copy)]
 struct Run {
     dial: Dial,
     sum: u64,
@@ -14,21 +14,21 @@ struct Run {
 }
 
 // The two sums.
-#[derive(Drop)]
+#[derive(Clone, Copy)]
 struct Sums {
     sum: u64,
     loads: u64,
 }
 
 // An operation: its kind, the slot of its handle, and its tick.
-#[derive(Drop)]
+#[derive(Clone, Copy)]
 struct Operation {
     kind: u64,
     slot: u64,
     tick: u64,
 }
 
-#[derive(Drop)]
+#[derive(Clone, Copy)]
 struct Handle {
     cell: u64,
     ticket: u64,

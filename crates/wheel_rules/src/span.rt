@@ -6,7 +6,7 @@ ghost use Rattle.wheel_rules.specs.Spans.{in_span, SpanOf};
 use places::{slot, wake_tick};
 
 // The ticks from low to high: none where low is the higher.
-#[derive(Drop)]
+#[derive(Clone, Copy)]
 pub struct Span {
     pub low: u64,
     pub high: u64,

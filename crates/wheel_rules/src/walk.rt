@@ -20,7 +20,7 @@ use slots::ring::Ends;
 use slots::slots::ends_of;
 
 // What a walk found: how many cells, whether what it walked is sound, and whether order numbers rise along each list.
-#[derive(Drop)]
+#[derive(Clone, Copy)]
 pub struct Noted {
     pub count: u64,
     pub sound: bool,

@@ -14,7 +14,7 @@ use wheel::head::Dial;
 use wheel::in_place;
 
 // What a command leaves: where its answer ends in the output, and the wheel's numbers.
-#[derive(Drop)]
+#[derive(Clone, Copy)]
 pub struct Said {
     pub end: usize,
     pub dial: Dial,

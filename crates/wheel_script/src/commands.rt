@@ -8,7 +8,7 @@ ghost use Rattle.wheel_script.specs.Runs.{opening_of};
 use script::reading::{Read, read_line};
 
 // Each command with its numbers, in the order of the line.
-#[derive(Drop)]
+#[derive(Clone, Copy)]
 pub enum Command {
     Bad,
     Wheel(u64, u64),
@@ -19,7 +19,7 @@ pub enum Command {
 }
 
 // What a first line sets up: so many cells and the start clock, or nothing.
-#[derive(Drop)]
+#[derive(Clone, Copy)]
 pub enum Opening {
     Wrong,
     Wheel(u64, u64),

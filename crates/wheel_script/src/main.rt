@@ -97,7 +97,7 @@ fn answer_lines(
 }
 
 // What a chunk leaves: how many bytes are held at the front of the buffer, whether to read on, and where the run stands.
-#[derive(Drop)]
+#[derive(Clone, Copy)]
 struct Step {
     held: usize,
     more: bool,

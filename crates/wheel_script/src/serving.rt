@@ -13,7 +13,7 @@ use wheel::head::{Dial, SetUpAnswer};
 use wheel::setup::set_up;
 
 // Where a run stands: before its first line, with a wheel in so many of the words, or ended by its first line.
-#[derive(Drop)]
+#[derive(Clone, Copy)]
 pub enum Session {
     Fresh,
     Open(usize, Dial),
@@ -21,7 +21,7 @@ pub enum Session {
 }
 
 // What a line leaves: where its answer ends in the output, and where the run stands.
-#[derive(Drop)]
+#[derive(Clone, Copy)]
 pub struct Turn {
     pub end: usize,
     pub session: Session,

@@ -11,14 +11,14 @@ use Rattle.places.proofs.Levels.{level-below, level-most, level-reach, level-low
 use Rattle.places.proofs.level.Statement.{statement}
 use Rattle.places.proofs.level.Tie as tie
 
-abbrev invariant-loop : tie.invariant-loop
+abbrev invariant-loop : tie.invariant-loop-t
 invariant-loop clock deadline t₀ e₀ p₀ t e p =
     (t ≡ clock % 64 ^ 6 / 64 ^ suc p)
     × (e ≡ deadline % 64 ^ 6 / 64 ^ suc p)
     × (p ≤ level_of 64 6 (clock % 64 ^ 6) (deadline % 64 ^ 6))
     × (p < 6)
 
-abbrev decreases-loop : tie.decreases-loop
+abbrev decreases-loop : tie.decreases-loop-t
 decreases-loop clock deadline t₀ e₀ p₀ t e p = 6 - p
 
 -- One more position is passed: the quotients above p differ, so the level is above p.
@@ -43,20 +43,20 @@ found clock deadline t e p i s =
     let e' : ℕ = deadline % 64 ^ 6 in
     omega (arith, level-most 64 6 t' e' p (sym i.0 ∙ s ∙ i.1), level-low 64 6 clock deadline (omega arith))
 
-loop-holds : tie.Need-loop-init invariant-loop decreases-loop
+loop-holds : tie.Need-loop-t-init invariant-loop decreases-loop
 loop-holds c = (refl, refl, omega arith, omega arith)
 
-add-p : tie.Need-overflow-add-p invariant-loop decreases-loop
+add-p : tie.Need-overflow_add-p invariant-loop decreases-loop
 add-p c = omega arith
 
-loop-less : tie.Need-loop-smaller invariant-loop decreases-loop
+loop-less : tie.Need-loop-t-smaller invariant-loop decreases-loop
 loop-less c = omega arith
 
-loop-again : tie.Need-loop-preserved invariant-loop decreases-loop
-loop-again c = step _ _ _ _ _ c.before.loop.invariant (omega arith)
+loop-again : tie.Need-loop-t-preserved invariant-loop decreases-loop
+loop-again c = step _ _ _ _ _ c.loop-t.invariant (omega arith)
 
 returns : tie.Need-returns invariant-loop decreases-loop
-returns c = found _ _ _ _ _ c.before.loop.invariant (omega arith)
+returns c = found _ _ _ _ _ c.loop-t.invariant (omega arith)
 
-pub level-spec : {M : Type 1} → statement M
-level-spec = tie.close (tie.spec invariant-loop decreases-loop loop-holds add-p loop-less loop-again returns)
+pub level_spec : {M : Type 1} → statement M
+level_spec = tie.close (tie.spec invariant-loop decreases-loop loop-holds add-p loop-less loop-again returns)

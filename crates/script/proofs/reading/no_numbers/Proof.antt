@@ -8,5 +8,5 @@ returns : tie.Need-returns
 unfolding none
 returns c = refl
 
-pub no-numbers-spec : {M : Type 1} → statement M
-no-numbers-spec = tie.close (tie.spec returns)
+pub no_numbers_spec : {M : Type 1} → statement M
+no_numbers_spec = tie.close (tie.spec returns)

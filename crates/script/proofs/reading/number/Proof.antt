@@ -9,59 +9,59 @@ use Rattle.script.proofs.Fields.{digits_from, digit-fits, number-empty, number-l
 use Rattle.script.proofs.reading.number.Statement.{statement}
 use Rattle.script.proofs.reading.number.Tie as tie
 
-abbrev invariant-loop : tie.invariant-loop
+abbrev invariant-loop : tie.invariant-loop-i
 invariant-loop s value₀ i₀ value i = (value ≤ 18446744073709551615) × (digits_from value (drop i s) ≡ digits_from 0 s)
 
-abbrev decreases-loop : tie.decreases-loop
+abbrev decreases-loop : tie.decreases-loop-i
 decreases-loop s value₀ i₀ value i = length s - i
 
-returns : tie.Need-returns invariant-loop decreases-loop
-returns c = number-empty _ c.if1.true
+returns : tie.Need-returns-then-s-eq0 invariant-loop decreases-loop
+returns c = number-empty _ c.if-s-eq0.true
 
-returns-2 : tie.Need-returns-2 invariant-loop decreases-loop
-returns-2 c = number-long _ c.if2.true
+returns-2 : tie.Need-returns-then-s-gt20 invariant-loop decreases-loop
+returns-2 c = number-long _ c.if-s-gt20.true
 
-loop-holds : tie.Need-loop-init invariant-loop decreases-loop
+loop-holds : tie.Need-loop-i-init invariant-loop decreases-loop
 loop-holds c = (omega arith, refl)
 
-shared-slice-read-one-digit : tie.Need-shared-slice-read-one-digit invariant-loop decreases-loop
+shared-slice-read-one-digit : tie.Need-bounds-s-i invariant-loop decreases-loop
 shared-slice-read-one-digit c = search rules
 
-one-digit-requires : tie.Need-one-digit-requires invariant-loop decreases-loop
+one-digit-requires : tie.Need-one_digit-requires invariant-loop decreases-loop
 one-digit-requires c κs = search rules
 
-enum-known-v : tie.Need-enum-known-v invariant-loop decreases-loop
+enum-known-v : tie.Need-enum_known-v invariant-loop decreases-loop
 enum-known-v c = search rules
 
-enum_told : tie.Need-enum-told invariant-loop decreases-loop
+enum_told : tie.Need-enum_told-1 invariant-loop decreases-loop
 enum_told c = search rules
 
-returns-3 : tie.Need-returns-3 invariant-loop decreases-loop
+returns-3 : tie.Need-returns-in_default invariant-loop decreases-loop
 returns-3 c =
     digits-refused _ _ _
-    c.before.before.before.before.loop-test.true
-    (sym c.enum_told.given.1 ∙ c.before.before.one-digit.ensures)
-    c.before.before.before.before.before.loop.invariant.1
-    ∙ sym (number_digits _ c.before.before.before.before.before.before.before.if1.false c.before.before.before.before.before.before.if2.false)
+    c.loop-i-test.true
+    (sym c.in_default.is ∙ c.one_digit.ensures)
+    c.loop-i.invariant.1
+    ∙ sym (number_digits _ c.if-s-eq0.false c.if-s-gt20.false)
 
-add-i : tie.Need-overflow-add-i invariant-loop decreases-loop
+add-i : tie.Need-overflow_add-i invariant-loop decreases-loop
 add-i c = search rules
 
-loop-less : tie.Need-loop-smaller invariant-loop decreases-loop
+loop-less : tie.Need-loop-i-smaller invariant-loop decreases-loop
 loop-less c = search rules
 
-loop-again : tie.Need-loop-preserved invariant-loop decreases-loop
+loop-again : tie.Need-loop-i-preserved invariant-loop decreases-loop
 loop-again c =
-    let e = sym c.before.v.given.1 ∙ c.before.before.before.one-digit.ensures in
-    (digit-fits _ _ _ e, digits-again _ _ _ _ c.before.before.before.before.before.loop-test.true e c.before.before.before.before.before.before.loop.invariant.1)
+    let e = sym c.in-Value.is ∙ c.one_digit.ensures in
+    (digit-fits _ _ _ e, digits-again _ _ _ _ c.loop-i-test.true e c.loop-i.invariant.1)
 
-returns-4 : tie.Need-returns-4 invariant-loop decreases-loop
+returns-4 : tie.Need-returns invariant-loop decreases-loop
 returns-4 c =
-    digits-over _ _ _ c.loop-test.false c.before.loop.invariant.0 c.before.loop.invariant.1
-    ∙ sym (number_digits _ c.before.before.before.if1.false c.before.before.if2.false)
+    digits-over _ _ _ c.loop-i-test.false c.loop-i.invariant.0 c.loop-i.invariant.1
+    ∙ sym (number_digits _ c.if-s-eq0.false c.if-s-gt20.false)
 
-pub number-spec : {M : Type 1} → statement M
-number-spec =
+pub number_spec : {M : Type 1} → statement M
+number_spec =
     tie.close
     (tie.spec
     invariant-loop

@@ -9,68 +9,68 @@ use Rattle.script.proofs.Fields.{word_from, word-empty, word-long, word_bytes, w
 use Rattle.script.proofs.reading.word.Statement.{statement}
 use Rattle.script.proofs.reading.word.Tie as tie
 
-abbrev invariant-loop : tie.invariant-loop
+abbrev invariant-loop : tie.invariant-loop-i
 invariant-loop s value₀ i₀ value i = (value < 256 ^ i) × (word_from value (drop i s) ≡ word_from 0 s)
 
-abbrev decreases-loop : tie.decreases-loop
+abbrev decreases-loop : tie.decreases-loop-i
 decreases-loop s value₀ i₀ value i = length s - i
 
-returns : tie.Need-returns invariant-loop decreases-loop
-returns c = word-empty _ c.if1.true
+returns : tie.Need-returns-then-s-eq0 invariant-loop decreases-loop
+returns c = word-empty _ c.if-s-eq0.true
 
-returns-2 : tie.Need-returns-2 invariant-loop decreases-loop
-returns-2 c = word-long _ c.if2.true
+returns-2 : tie.Need-returns-then-s-gt8 invariant-loop decreases-loop
+returns-2 c = word-long _ c.if-s-gt8.true
 
-loop-holds : tie.Need-loop-init invariant-loop decreases-loop
+loop-holds : tie.Need-loop-i-init invariant-loop decreases-loop
 loop-holds c = (omega arith, refl)
 
-shared-slice-read-wide : tie.Need-shared-slice-read-wide invariant-loop decreases-loop
+shared-slice-read-wide : tie.Need-bounds-s-i invariant-loop decreases-loop
 shared-slice-read-wide c = search rules
 
-wide-requires : tie.Need-wide-requires invariant-loop decreases-loop
+wide-requires : tie.Need-wide-b-requires invariant-loop decreases-loop
 wide-requires c κs = search rules
 
-returns-3 : tie.Need-returns-3 invariant-loop decreases-loop
+returns-3 : tie.Need-returns-then-b-le32 invariant-loop decreases-loop
 returns-3 c =
     word-refused _ _ _
-    c.before.before.before.loop-test.true
-    (omega (arith, c.before.wide.ensures))
-    c.before.before.before.before.loop.invariant.1
-    ∙ sym (word_bytes _ c.before.before.before.before.before.before.if1.false c.before.before.before.before.before.if2.false)
+    c.loop-i-test.true
+    (omega (arith, c.wide-b.ensures))
+    c.loop-i.invariant.1
+    ∙ sym (word_bytes _ c.if-s-eq0.false c.if-s-gt8.false)
 
 -- Seven bytes leave room for one more.
-small : (c : tie.Else3 invariant-loop decreases-loop) → c.before.before.before.before.loop.value < 72057594037927936
-small c = word_small _ _ c.before.before.before.before.loop.invariant.0 (omega arith)
+small : (c : tie.Else-b-le32 invariant-loop decreases-loop) → c.loop-i.value < 72057594037927936
+small c = word_small _ _ c.loop-i.invariant.0 (omega arith)
 
-mul-value : tie.Need-overflow-mul-value invariant-loop decreases-loop
+mul-value : tie.Need-overflow_mul-value invariant-loop decreases-loop
 mul-value c = omega (arith, small c)
 
-add-value : tie.Need-overflow-add-value invariant-loop decreases-loop
+add-value : tie.Need-overflow_add-value invariant-loop decreases-loop
 add-value c = omega (arith, small c)
 
-add-i : tie.Need-overflow-add-i invariant-loop decreases-loop
+add-i : tie.Need-overflow_add-i invariant-loop decreases-loop
 add-i c = search rules
 
-loop-less : tie.Need-loop-smaller invariant-loop decreases-loop
+loop-less : tie.Need-loop-i-smaller invariant-loop decreases-loop
 loop-less c = search rules
 
-loop-again : tie.Need-loop-preserved invariant-loop decreases-loop
+loop-again : tie.Need-loop-i-preserved invariant-loop decreases-loop
 loop-again c = (
-  word-larger _ _ _ c.before.before.before.before.loop.invariant.0 c.before.wide.ensures.1,
+  word-larger _ _ _ c.loop-i.invariant.0 c.wide-b.ensures.1,
   word-again _ _ _ _
-      c.before.before.before.loop-test.true
-      c.before.wide.ensures.0
-      c.if3.false
-      c.before.before.before.before.loop.invariant.1,
+      c.loop-i-test.true
+      c.wide-b.ensures.0
+      c.if-b-le32.false
+      c.loop-i.invariant.1,
 )
 
-returns-4 : tie.Need-returns-4 invariant-loop decreases-loop
+returns-4 : tie.Need-returns invariant-loop decreases-loop
 returns-4 c =
-    word_over _ _ _ c.loop-test.false c.before.loop.invariant.1
-    ∙ sym (word_bytes _ c.before.before.before.if1.false c.before.before.if2.false)
+    word_over _ _ _ c.loop-i-test.false c.loop-i.invariant.1
+    ∙ sym (word_bytes _ c.if-s-eq0.false c.if-s-gt8.false)
 
-pub word-spec : {M : Type 1} → statement M
-word-spec =
+pub word_spec : {M : Type 1} → statement M
+word_spec =
     tie.close
     (tie.spec
     invariant-loop

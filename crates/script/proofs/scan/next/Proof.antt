@@ -9,36 +9,36 @@ use Rattle.script.proofs.Pieces.{far-stop, far-past, far-end}
 use Rattle.script.proofs.scan.next.Statement.{statement}
 use Rattle.script.proofs.scan.next.Tie as tie
 
-abbrev invariant-loop : tie.invariant-loop
+abbrev invariant-loop : tie.invariant-loop-i
 invariant-loop s from stop i₀ i = i + length (up_to stop (drop i s)) ≡ from + length (up_to stop (drop from s))
 
-abbrev decreases-loop : tie.decreases-loop
+abbrev decreases-loop : tie.decreases-loop-i
 decreases-loop s from stop i₀ i = length s - i
 
-loop-holds : tie.Need-loop-init invariant-loop decreases-loop
+loop-holds : tie.Need-loop-i-init invariant-loop decreases-loop
 loop-holds c = refl
 
-shared-slice-read-if1 : tie.Need-shared-slice-read-if1 invariant-loop decreases-loop
+shared-slice-read-if1 : tie.Need-bounds-s-i invariant-loop decreases-loop
 shared-slice-read-if1 c = search rules
 
-returns : tie.Need-returns invariant-loop decreases-loop
+returns : tie.Need-returns-then-s-i invariant-loop decreases-loop
 returns c =
-    sym (far-stop _ _ _ c.before.before.loop-test.true c.if1.true) ∙ c.before.before.before.loop.invariant
+    sym (far-stop _ _ _ c.loop-i-test.true c.if-s-i.true) ∙ c.loop-i.invariant
 
-add-i : tie.Need-overflow-add-i invariant-loop decreases-loop
+add-i : tie.Need-overflow_add-i invariant-loop decreases-loop
 add-i c = search rules
 
-loop-less : tie.Need-loop-smaller invariant-loop decreases-loop
+loop-less : tie.Need-loop-i-smaller invariant-loop decreases-loop
 loop-less c = search rules
 
-loop-again : tie.Need-loop-preserved invariant-loop decreases-loop
-loop-again c = far-past _ _ _ c.before.before.loop-test.true c.if1.false ∙ c.before.before.before.loop.invariant
+loop-again : tie.Need-loop-i-preserved invariant-loop decreases-loop
+loop-again c = far-past _ _ _ c.loop-i-test.true c.if-s-i.false ∙ c.loop-i.invariant
 
-returns-2 : tie.Need-returns-2 invariant-loop decreases-loop
-returns-2 c = sym (far-end _ _ _ c.loop-test.false) ∙ c.before.loop.invariant
+returns-2 : tie.Need-returns invariant-loop decreases-loop
+returns-2 c = sym (far-end _ _ _ c.loop-i-test.false) ∙ c.loop-i.invariant
 
-pub next-spec : {M : Type 1} → statement M
-next-spec =
+pub next_spec : {M : Type 1} → statement M
+next_spec =
     tie.close
     (tie.spec
     invariant-loop

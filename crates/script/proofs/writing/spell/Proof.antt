@@ -6,47 +6,47 @@ use Rattle.script.proofs.Decimals.{Spelling, spelling-start, spelling-room, spel
 use Rattle.script.proofs.writing.spell.Statement.{statement}
 use Rattle.script.proofs.writing.spell.Tie as tie
 
-abbrev invariant-loop : tie.invariant-loop
+abbrev invariant-loop : tie.invariant-loop-rest
 invariant-loop n d₀ rest₀ i₀ d rest i = Spelling n d rest i
 
-abbrev decreases-loop : tie.decreases-loop
+abbrev decreases-loop : tie.decreases-loop-rest
 decreases-loop n d₀ rest₀ i₀ d rest i = rest
 
-loop-holds : tie.Need-loop-init invariant-loop decreases-loop
-loop-holds c = spelling-start _ _ _ (omega arith) c.before.requires (omega arith)
+loop-holds : tie.Need-loop-rest-init invariant-loop decreases-loop
+loop-holds c = spelling-start _ _ _ (omega arith) c.requires (omega arith)
 
-sub-i : tie.Need-overflow-sub-i invariant-loop decreases-loop
-sub-i c = omega (arith, spelling-room _ _ _ _ c.before.loop.invariant)
+sub-i : tie.Need-overflow_sub-i invariant-loop decreases-loop
+sub-i c = omega (arith, spelling-room _ _ _ _ c.loop-rest.invariant)
 
 glyph-requires : tie.Need-glyph-requires invariant-loop decreases-loop
 glyph-requires c κs = omega arith
 
-slice-write-d : tie.Need-slice-write-d invariant-loop decreases-loop
-slice-write-d c = omega (arith, spelling-room _ _ _ _ c.before.before.loop.invariant)
+slice-write-d : tie.Need-bounds-d-i invariant-loop decreases-loop
+slice-write-d c = omega (arith, spelling-room _ _ _ _ c.loop-rest.invariant)
 
-loop-less : tie.Need-loop-smaller invariant-loop decreases-loop
+loop-less : tie.Need-loop-rest-smaller invariant-loop decreases-loop
 loop-less c = omega arith
 
-loop-again : tie.Need-loop-preserved invariant-loop decreases-loop
-loop-again c = spelling-more _ _ _ _ _ c.before.before.loop.invariant c.before.loop-test.true c.glyph.ensures
+loop-again : tie.Need-loop-rest-preserved invariant-loop decreases-loop
+loop-again c = spelling-more _ _ _ _ _ c.loop-rest.invariant c.loop-rest-test.true c.glyph.ensures
 
-sub-i-2 : tie.Need-overflow-sub-i-2 invariant-loop decreases-loop
-sub-i-2 c = omega (arith, spelling-room _ _ _ _ c.before.loop.invariant)
+sub-i-2 : tie.Need-overflow_sub-i-2 invariant-loop decreases-loop
+sub-i-2 c = omega (arith, spelling-room _ _ _ _ c.loop-rest.invariant)
 
 glyph-requires-2 : tie.Need-glyph-requires-2 invariant-loop decreases-loop
 glyph-requires-2 c κs = omega arith
 
-slice-write-d-2 : tie.Need-slice-write-d-2 invariant-loop decreases-loop
-slice-write-d-2 c = omega (arith, spelling-room _ _ _ _ c.before.before.loop.invariant)
+slice-write-d-2 : tie.Need-bounds-d-i-2 invariant-loop decreases-loop
+slice-write-d-2 c = omega (arith, spelling-room _ _ _ _ c.loop-rest.invariant)
 
-same_length : tie.Need-same-length invariant-loop decreases-loop
+same_length : tie.Need-shape_of-d invariant-loop decreases-loop
 same_length c = simp length-set (omega arith)
 
 returns : tie.Need-returns invariant-loop decreases-loop
-returns c = spelling-last _ _ _ _ _ c.before.before.loop.invariant c.before.loop-test.false c.glyph2.ensures
+returns c = spelling-last _ _ _ _ _ c.loop-rest.invariant c.loop-rest-test.false c.glyph-2.ensures
 
-pub spell-spec : {M : Type 1} → statement M
-spell-spec =
+pub spell_spec : {M : Type 1} → statement M
+spell_spec =
     tie.close
     (tie.spec
     invariant-loop

@@ -5,43 +5,35 @@ use Rattle.script.proofs.Laying.{laid-join}
 use Rattle.script.proofs.writing.write_line.Statement.{statement}
 use Rattle.script.proofs.writing.write_line.Tie as tie
 
-write-phrase-requires : tie.Need-write-phrase-requires
+write-phrase-requires : tie.Need-write_phrase-one-requires
 write-phrase-requires c κs = search rules
 
-write-phrase-requires-2 : tie.Need-write-phrase-requires-2
+write-phrase-requires-2 : tie.Need-write_phrase-two-requires
 write-phrase-requires-2 c κs = search rules
 
-write-text-requires : tie.Need-write-text-requires
+write-text-requires : tie.Need-write_text-three-requires
 write-text-requires c κs = search rules
 
-slice-aggregate-write-text : tie.Need-slice-aggregate-write-text
-slice-aggregate-write-text c = search rules
-
-write-text-requires-2 : tie.Need-write-text-requires-2
+write-text-requires-2 : tie.Need-write_text-requires
 write-text-requires-2 c κs = search rules
 
-same_length : tie.Need-same-length
+same_length : tie.Need-shape_of-out
 same_length c = search rules
 
 returns : tie.Need-returns
 unfolding answer_line
 returns c =
-    let four = c.before.before in
-    let three = c.before.before.before.before.before.before.before in
-    let two = three.before.before.before.before in
-    let one = two.before.before.before.before in
     laid-join _ _ _ _ _ _ _ _
-    (laid-join _ _ _ _ _ _ _ _ (laid-join _ _ _ _ _ _ _ _ one.write-phrase.ensures two.write-phrase2.ensures) three.write-text.ensures)
-    four.write-text2.ensures
+    (laid-join _ _ _ _ _ _ _ _ (laid-join _ _ _ _ _ _ _ _ c.write_phrase-one.ensures c.write_phrase-two.ensures) c.write_text-three.ensures)
+    c.write_text.ensures
 
-pub write-line-spec : {M : Type 1} → statement M
-write-line-spec =
+pub write_line_spec : {M : Type 1} → statement M
+write_line_spec =
     tie.close
     (tie.spec
     write-phrase-requires
     write-phrase-requires-2
     write-text-requires
-    slice-aggregate-write-text
     write-text-requires-2
     same_length
     returns)

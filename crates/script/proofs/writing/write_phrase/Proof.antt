@@ -5,20 +5,20 @@ use Rattle.script.proofs.Laying.{laid-join}
 use Rattle.script.proofs.writing.write_phrase.Statement.{statement}
 use Rattle.script.proofs.writing.write_phrase.Tie as tie
 
-write-text-requires : tie.Need-write-text-requires
+write-text-requires : tie.Need-write_text-next-requires
 write-text-requires c κs = search rules
 
-write-numbers-requires : tie.Need-write-numbers-requires
+write-numbers-requires : tie.Need-write_numbers-requires
 write-numbers-requires c κs = search rules
 
-same_length : tie.Need-same-length
+same_length : tie.Need-shape_of-out
 same_length c = search rules
 
 returns : tie.Need-returns
 unfolding phrase
 returns c =
-    laid-join _ _ _ _ _ _ _ _ c.before.before.before.before.before.before.write-text.ensures c.before.before.write-numbers.ensures
+    laid-join _ _ _ _ _ _ _ _ c.write_text-next.ensures c.write_numbers.ensures
 
-pub write-phrase-spec : {M : Type 1} → statement M
-write-phrase-spec =
+pub write_phrase_spec : {M : Type 1} → statement M
+write_phrase_spec =
     tie.close (tie.spec write-text-requires write-numbers-requires same_length returns)

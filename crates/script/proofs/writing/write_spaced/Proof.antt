@@ -4,26 +4,22 @@ use Rattle.script.proofs.Laying.{laid-join}
 use Rattle.script.proofs.writing.write_spaced.Statement.{statement}
 use Rattle.script.proofs.writing.write_spaced.Tie as tie
 
-slice-aggregate-write-text : tie.Need-slice-aggregate-write-text
-slice-aggregate-write-text c = search rules
-
-write-text-requires : tie.Need-write-text-requires
+write-text-requires : tie.Need-write_text-next-requires
 write-text-requires c κs = search rules
 
-write-number-requires : tie.Need-write-number-requires
+write-number-requires : tie.Need-write_number-requires
 write-number-requires c κs = search rules
 
-same_length : tie.Need-same-length
+same_length : tie.Need-shape_of-out
 same_length c = search rules
 
 returns : tie.Need-returns
-returns c = laid-join _ _ _ _ _ _ _ _ c.before.before.before.before.before.before.write-text.ensures c.before.before.write-number.ensures
+returns c = laid-join _ _ _ _ _ _ _ _ c.write_text-next.ensures c.write_number.ensures
 
-pub write-spaced-spec : {M : Type 1} → statement M
-write-spaced-spec =
+pub write_spaced_spec : {M : Type 1} → statement M
+write_spaced_spec =
     tie.close
     (tie.spec
-    slice-aggregate-write-text
     write-text-requires
     write-number-requires
     same_length

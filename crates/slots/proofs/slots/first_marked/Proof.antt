@@ -9,49 +9,47 @@ use borrow.Author.Rules.{rules}
 use Rattle.slots.proofs.slots.first_marked.Statement.{statement}
 use Rattle.slots.proofs.slots.first_marked.Tie as tie
 
-abbrev invariant-loop : tie.invariant-loop
+abbrev invariant-loop : tie.invariant-loop-p
 invariant-loop marks p₀ p = (p ≤ 6) × (first_marked marks ≡ scan (slot_marked marks) (384 - p * 64) (p * 64))
 
-abbrev decreases-loop : tie.decreases-loop
+abbrev decreases-loop : tie.decreases-loop-p
 decreases-loop marks p₀ p = 6 - p
 
-loop-holds : tie.Need-loop-init invariant-loop decreases-loop
+loop-holds : tie.Need-loop-p-init invariant-loop decreases-loop
 unfolding first_marked
 loop-holds c = (omega arith, refl)
 
-marks-at-requires : tie.Need-marks-at-requires invariant-loop decreases-loop
+marks-at-requires : tie.Need-marks_at-m-requires invariant-loop decreases-loop
 marks-at-requires c κs = search rules
 
-mul-result : tie.Need-overflow-mul-result invariant-loop decreases-loop
+mul-result : tie.Need-overflow_mul-result invariant-loop decreases-loop
 mul-result c = omega arith
 
 lowest-requires : tie.Need-lowest-requires invariant-loop decreases-loop
 lowest-requires c κs = search rules
 
-add-result : tie.Need-overflow-add-result invariant-loop decreases-loop
+add-result : tie.Need-overflow_add-result invariant-loop decreases-loop
 add-result c = omega (arith, c.lowest.ensures.1)
 
-returns : tie.Need-returns invariant-loop decreases-loop
+returns : tie.Need-returns-then-m-gt0 invariant-loop decreases-loop
 returns c =
-    let level = c.before.before in
-    level-found _ _ _ (search rules) level.marks-at.ensures _ c.lowest.ensures.0 c.lowest.ensures.1 ∙ sym level.before.before.loop.invariant.1
+    level-found _ _ _ (search rules) c.marks_at-m.ensures _ c.lowest.ensures.0 c.lowest.ensures.1 ∙ sym c.loop-p.invariant.1
 
-add-p : tie.Need-overflow-add-p invariant-loop decreases-loop
+add-p : tie.Need-overflow_add-p invariant-loop decreases-loop
 add-p c = omega arith
 
-loop-less : tie.Need-loop-smaller invariant-loop decreases-loop
+loop-less : tie.Need-loop-p-smaller invariant-loop decreases-loop
 loop-less c = omega arith
 
-loop-again : tie.Need-loop-preserved invariant-loop decreases-loop
+loop-again : tie.Need-loop-p-preserved invariant-loop decreases-loop
 loop-again c =
-    let level = c.before in
-    (omega arith, level.before.before.loop.invariant.1 ∙ level-none _ _ _ (search rules) level.marks-at.ensures (omega arith))
+    (omega arith, c.loop-p.invariant.1 ∙ level-none _ _ _ (search rules) c.marks_at-m.ensures (omega arith))
 
-returns-2 : tie.Need-returns-2 invariant-loop decreases-loop
-returns-2 c = sym (c.before.loop.invariant.1 ∙ level-end _ _ (omega arith))
+returns-2 : tie.Need-returns invariant-loop decreases-loop
+returns-2 c = sym (c.loop-p.invariant.1 ∙ level-end _ _ (omega arith))
 
-pub first-marked-spec : {M : Type 1} → statement M
-first-marked-spec =
+pub first_marked_spec : {M : Type 1} → statement M
+first_marked_spec =
     tie.close
     (tie.spec
     invariant-loop

@@ -5,12 +5,12 @@ use borrow.Author.Rules.{rules}
 use Rattle.slots.proofs.slots.is_marked.Statement.{statement}
 use Rattle.slots.proofs.slots.is_marked.Tie as tie
 
-shr-result : tie.Need-overflow-shr-result
+shr-result : tie.Need-overflow_shr-result
 shr-result c = search rules
 
 returns : tie.Need-returns
 unfolding is_marked
 returns c = refl
 
-pub is-marked-spec : {M : Type 1} → statement M
-is-marked-spec = tie.close (tie.spec shr-result returns)
+pub is_marked_spec : {M : Type 1} → statement M
+is_marked_spec = tie.close (tie.spec shr-result returns)

@@ -5,19 +5,19 @@ use borrow.Author.Rules.{rules}
 use Rattle.slots.proofs.slots.marks_at.Statement.{statement}
 use Rattle.slots.proofs.slots.marks_at.Tie as tie
 
-mul-result : tie.Need-overflow-mul-result
+mul-result : tie.Need-offset_bounds-marks-at
 mul-result c = search rules
 
-shared-slice-read-result : tie.Need-shared-slice-read-result
+shared-slice-read-result : tie.Need-bounds-marks-at
 shared-slice-read-result c = search rules
 
-returns : tie.Need-returns
+returns : tie.Need-returns-then-at-marks
 returns c = search rules
 
-returns-2 : tie.Need-returns-2
+returns-2 : tie.Need-returns
 returns-2 c =
-    let start = c.before.args in
+    let start = c.args in
     sym (get_or-eq_default start.marks.now 0 {n = start.p} (search rules))
 
-pub marks-at-spec : {M : Type 1} → statement M
-marks-at-spec = tie.close (tie.spec mul-result shared-slice-read-result returns returns-2)
+pub marks_at_spec : {M : Type 1} → statement M
+marks_at_spec = tie.close (tie.spec mul-result shared-slice-read-result returns returns-2)

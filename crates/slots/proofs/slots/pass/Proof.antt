@@ -6,26 +6,26 @@ use borrow.Author.Rules.{rules}
 use Rattle.slots.proofs.slots.pass.Statement.{statement}
 use Rattle.slots.proofs.slots.pass.Tie as tie
 
-rem-t : tie.Need-nonzero-rem-t
-rem-t c = rw c.before.requires.2 (pow_pos _)
+rem-t : tie.Need-nonzero_rem-t
+rem-t c = rw c.requires.2 (pow_pos _)
 
-add-pick : tie.Need-overflow-add-pick
+add-pick : tie.Need-overflow_add-p
 add-pick c = search rules
 
 pick-requires : tie.Need-pick-requires
 pick-requires c κs = search rules
 
-div-pick : tie.Need-nonzero-div-pick
-div-pick c = rw c.before.before.before.before.requires.2 (pow_pos _)
+div-pick : tie.Need-nonzero_div-p
+div-pick c = rw c.requires.2 (pow_pos _)
 
 pick-requires-2 : tie.Need-pick-requires-2
 pick-requires-2 c κs = search rules
 
 returns : tie.Need-returns
 returns c =
-    passed-picked _ _ _ _ _ _ c.before.before.before.before.before.requires.2 refl
-    c.before.before.pick.ensures
-    c.pick2.ensures
+    passed-picked _ _ _ _ _ _ c.requires.2 refl
+    c.pick.ensures
+    c.pick-2.ensures
 
 pub pass_spec : {M : Type 1} → statement M
 pass_spec = tie.close (tie.spec rem-t add-pick pick-requires div-pick pick-requires-2 returns)

@@ -7,25 +7,23 @@ use borrow.Author.Rules.{rules}
 use Rattle.slots.proofs.slots.with_mark.Statement.{statement}
 use Rattle.slots.proofs.slots.with_mark.Tie as tie
 
-is-marked-requires : tie.Need-is-marked-requires
+is-marked-requires : tie.Need-is_marked-requires
 is-marked-requires c κs = search rules
 
-returns : tie.Need-returns
-returns c = (marked-is _ _ c.before.is-marked.ensures c.if1.true).0
+returns : tie.Need-returns-then-is_marked
+returns c = (marked-is _ _ c.is_marked.ensures c.if-is_marked.true).0
 
-shl-result : tie.Need-overflow-shl-result
+shl-result : tie.Need-overflow_shl-result
 shl-result c = search rules
 
-add-result : tie.Need-overflow-add-result
+add-result : tie.Need-overflow_add-result
 add-result c =
-    let start = c.before.before in
-    let fits = mark-fits 64 start.args.m start.args.s start.requires start.ranges.m.fits (sym c.before.is-marked.ensures ∙ c.if1.false) in
-    record { fits = rw (one_shl start.args.s start.requires) fits }
+    let fits = mark-fits 64 c.args.m c.args.s c.requires c.ranges.m.fits (sym c.is_marked.ensures ∙ c.if-is_marked.false) in
+    record { fits = rw (one_shl c.args.s c.requires) fits }
 
-returns-2 : tie.Need-returns-2
+returns-2 : tie.Need-returns
 returns-2 c =
-    let start = c.before.before in
-    rw (one_shl start.args.s start.requires) (sym (unmarked-is _ _ c.before.is-marked.ensures c.if1.false).1)
+    rw (one_shl c.args.s c.requires) (sym (unmarked-is _ _ c.is_marked.ensures c.if-is_marked.false).1)
 
-pub with-mark-spec : {M : Type 1} → statement M
-with-mark-spec = tie.close (tie.spec is-marked-requires returns shl-result add-result returns-2)
+pub with_mark_spec : {M : Type 1} → statement M
+with_mark_spec = tie.close (tie.spec is-marked-requires returns shl-result add-result returns-2)

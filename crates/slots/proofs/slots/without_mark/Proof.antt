@@ -7,24 +7,22 @@ use borrow.Author.Rules.{rules}
 use Rattle.slots.proofs.slots.without_mark.Statement.{statement}
 use Rattle.slots.proofs.slots.without_mark.Tie as tie
 
-is-marked-requires : tie.Need-is-marked-requires
+is-marked-requires : tie.Need-is_marked-requires
 is-marked-requires c κs = search rules
 
-shl-result : tie.Need-overflow-shl-result
+shl-result : tie.Need-overflow_shl-result
 shl-result c = search rules
 
-sub-result : tie.Need-overflow-sub-result
+sub-result : tie.Need-overflow_sub-result
 sub-result c =
-    let start = c.before.before in
-    rw (one_shl start.args.s start.requires) (mark-within _ _ (sym c.before.is-marked.ensures ∙ c.if1.true))
+    rw (one_shl c.args.s c.requires) (mark-within _ _ (sym c.is_marked.ensures ∙ c.if-is_marked.true))
 
-returns : tie.Need-returns
+returns : tie.Need-returns-then-is_marked
 returns c =
-    let start = c.before.before in
-    rw (one_shl start.args.s start.requires) (sym (marked-is _ _ c.before.is-marked.ensures c.if1.true).1)
+    rw (one_shl c.args.s c.requires) (sym (marked-is _ _ c.is_marked.ensures c.if-is_marked.true).1)
 
-returns-2 : tie.Need-returns-2
-returns-2 c = (unmarked-is _ _ c.before.is-marked.ensures c.if1.false).0
+returns-2 : tie.Need-returns
+returns-2 c = (unmarked-is _ _ c.is_marked.ensures c.if-is_marked.false).0
 
-pub without-mark-spec : {M : Type 1} → statement M
-without-mark-spec = tie.close (tie.spec is-marked-requires shl-result sub-result returns returns-2)
+pub without_mark_spec : {M : Type 1} → statement M
+without_mark_spec = tie.close (tie.spec is-marked-requires shl-result sub-result returns returns-2)
