@@ -6,7 +6,7 @@ use mathlib.Core.Bool.{true, false}
 use mathlib.Core.List.{List, [], ◌∷◌}
 use mathlib.Core.Logic.{◌≢◌}
 use mathlib.Core.Option.{some}
-use mathlib.Core.Path.{◌≡◌, sym, ◌∙◌}
+use mathlib.Core.Path.{◌≡◌, sym, subst, ◌∙◌}
 use lib.Dec.{eqb}
 use borrow.Author.Tests.{eqb-true, eqb-false}
 use Rattle.cells.specs.Lists.{All}
@@ -57,7 +57,7 @@ due-leads t e rest (x ∷ xs) a s q =
     let whole : x ∷ standing t due_list xs ≡ e ∷ rest = rw y at q in
     let same : x ≡ e = cc in
     let key : t ≡ x.key = number-only t x.key (eqb-true (list_of t x.key) due_list y) in
-    rw (← same) (key, (behind-self x, clock-first t x xs key a.1 s.0)))
+    subst (λ (z : Entry). (t ≡ z.key) × All (λ (y : Entry). before y z ≡ false) (x ∷ xs)) same (key, (behind-self x, clock-first t x xs key a.1 s.0)))
     (λ n.
     let further : standing t due_list xs ≡ e ∷ rest = rw n at q in
     let two = due-leads t e rest xs a.1 s.1 further in

@@ -3,7 +3,7 @@
 use Prim.Native.Nat.{ℕ, ◌≤◌, ◌<◌}
 use native.Mathlib.Omega.{arith}
 use mathlib.Core.List.{List, [], ◌∷◌, map}
-use mathlib.Core.Path.{◌≡◌, refl, sym, ap, ◌∙◌}
+use mathlib.Core.Path.{◌≡◌, refl, sym, ap, subst, ◌∙◌}
 use lib.ListN.{length}
 use Rattle.cells.specs.Lists.{All, times}
 use Rattle.cells.proofs.Cases.{same?}
@@ -47,7 +47,7 @@ pub times-along : (f : Entry → ℕ) (k p : ℕ) (ps : List ℕ) (h : List Entr
 unfolding along
 times-along f k p [] h a = refl
 times-along f k p (q ∷ qs) h a =
-    times-along f k q qs (exchange p q h) (rw (length-exchange p q h) a.1)
+    times-along f k q qs (exchange p q h) (subst (λ (n : ℕ). All (λ (r : ℕ). r < n) (q ∷ qs)) (sym (length-exchange p q h)) a.1)
     ∙ times-exchange f k p q h a.0 a.1.0
 
 -- A rise displaces nothing but what stands on its path.

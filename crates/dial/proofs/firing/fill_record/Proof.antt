@@ -4,26 +4,26 @@ use borrow.Author.Rules.{rules}
 use Rattle.dial.proofs.firing.fill_record.Statement.{statement}
 use Rattle.dial.proofs.firing.fill_record.Tie as tie
 
-slice-write-rest : tie.Need-slice-write-rest
+slice-write-rest : tie.Need-bounds-rest-0
 slice-write-rest c = search rules
 
-slice-write-rest-2 : tie.Need-slice-write-rest-2
+slice-write-rest-2 : tie.Need-bounds-rest-1
 slice-write-rest-2 c = one_written c.args.rest.now c.args.c c.requires
 
-slice-write-rest-3 : tie.Need-slice-write-rest-3
+slice-write-rest-3 : tie.Need-bounds-rest-2
 slice-write-rest-3 c = two-written c.args.rest.now c.args.c c.args.k c.requires
 
-slice-write-rest-4 : tie.Need-slice-write-rest-4
+slice-write-rest-4 : tie.Need-bounds-rest-3
 slice-write-rest-4 c = search rules
 
-same_length : tie.Need-same-length
+same_length : tie.Need-shape_of-rest
 same_length c = search rules
 
 returns : tie.Need-returns
 returns c = filled_is c.args.rest.now c.args.c c.args.k c.args.e c.args.x c.requires
 
-pub fill-record-spec : {M : Type 1} → statement M
-fill-record-spec =
+pub fill_record_spec : {M : Type 1} → statement M
+fill_record_spec =
     tie.close
     (tie.spec
     slice-write-rest

@@ -12,7 +12,7 @@ use borrow.Author.Rules.{rules}
 use Rattle.dial.proofs.firing.hand_out.Statement.{statement}
 use Rattle.dial.proofs.firing.hand_out.Tie as tie
 
-abbrev invariant-loop : tie.invariant-loop
+abbrev invariant-loop : tie.invariant-loop-turn
 invariant-loop w₀ out₀ room turn₀ w out turn =
     (room ≡ length out₀ / 4)
     × (length w ≡ length w₀)
@@ -20,56 +20,54 @@ invariant-loop w₀ out₀ room turn₀ w out turn =
     × ((first last marks : List ℕ) → hand_out (room - turn₀.fired) (state_of w₀ first last marks out₀ turn₀)
     ≡ hand_out (room - turn.fired) (state_of w first last marks out turn))
 
-abbrev decreases-loop : tie.decreases-loop
+abbrev decreases-loop : tie.decreases-loop-turn
 decreases-loop w₀ out₀ room turn₀ w out turn = room - turn.fired
 
-loop-holds : tie.Need-loop-init invariant-loop decreases-loop
+loop-holds : tie.Need-loop-turn-init invariant-loop decreases-loop
 loop-holds c = (refl, refl, refl, λ first last marks. refl)
 
-same_length : tie.Need-same-length invariant-loop decreases-loop
+same_length : tie.Need-shape_of-w-then-turn-eq4096 invariant-loop decreases-loop
 same_length c = search rules
 
-same-length-2 : tie.Need-same-length-2 invariant-loop decreases-loop
+same-length-2 : tie.Need-shape_of-out-then-turn-eq4096 invariant-loop decreases-loop
 same-length-2 c = search rules
 
-returns : tie.Need-returns invariant-loop decreases-loop
+returns : tie.Need-returns-then-turn-eq4096 invariant-loop decreases-loop
 returns c =
-    let at = c.before.before.before.before.loop in
-    λ first last marks. handed-is _ _ at.invariant.0 (at.invariant.3 first last marks ∙ hand-stop _ _ c.if2.true)
+    let at = c.loop-turn in
+    λ first last marks. handed-is _ _ at.invariant.0 (at.invariant.3 first last marks ∙ hand-stop _ _ c.if-turn-eq4096.true)
 
-fire-requires : tie.Need-fire-requires invariant-loop decreases-loop
+fire-requires : tie.Need-fire-turn-requires invariant-loop decreases-loop
 fire-requires c κs = search rules
 
-loop-less : tie.Need-loop-smaller invariant-loop decreases-loop
+loop-less : tie.Need-loop-turn-smaller invariant-loop decreases-loop
 loop-less c =
-    let fired = c.before.before.before.before in
-    omega (arith, one-fired _ (fired.fire.ensures [] [] []))
+    omega (arith, one-fired _ (c.fire-turn.ensures [] [] []))
 
-loop-again : tie.Need-loop-preserved invariant-loop decreases-loop
+loop-again : tie.Need-loop-turn-preserved invariant-loop decreases-loop
 loop-again c =
-    let fired = c.before.before.before.before in
-    let at = fired.before.before.before.before.before.before.before.loop in (
+    let at = c.loop-turn in (
       at.invariant.0,
       search rules,
       search rules,
       λ first last marks.
           at.invariant.3 first last marks
-          ∙ hand_on _ _ _ (search rules) fired.before.before.before.if2.false (fired.fire.ensures first last marks),
+          ∙ hand_on _ _ _ (search rules) c.if-turn-eq4096.false (c.fire-turn.ensures first last marks),
     )
 
-same-length-3 : tie.Need-same-length-3 invariant-loop decreases-loop
+same-length-3 : tie.Need-shape_of-w invariant-loop decreases-loop
 same-length-3 c = search rules
 
-same-length-4 : tie.Need-same-length-4 invariant-loop decreases-loop
+same-length-4 : tie.Need-shape_of-out invariant-loop decreases-loop
 same-length-4 c = search rules
 
-returns-2 : tie.Need-returns-2 invariant-loop decreases-loop
+returns-2 : tie.Need-returns invariant-loop decreases-loop
 returns-2 c =
-    let at = c.before.before.loop in
+    let at = c.loop-turn in
     λ first last marks. handed-is _ _ at.invariant.0 (at.invariant.3 first last marks ∙ hand-none _ _ (omega arith))
 
-pub hand-out-spec : {M : Type 1} → statement M
-hand-out-spec =
+pub hand_out_spec : {M : Type 1} → statement M
+hand_out_spec =
     tie.close
     (tie.spec
     invariant-loop

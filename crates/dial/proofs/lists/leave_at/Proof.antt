@@ -7,36 +7,34 @@ use Rattle.dial.proofs.lists.leave_at.Tie as tie
 leave-requires : tie.Need-leave-requires
 leave-requires c κs = search rules
 
-same_length : tie.Need-same-length
+same_length : tie.Need-shape_of-w-then-i-eq384
 same_length c = search rules
 
-returns : tie.Need-returns
+returns : tie.Need-returns-then-i-eq384
 returns c =
-    let ring = c.before.before in
-    leave-due _ _ _ _ _ _ _ ring.before.before.if1.true ring.leave.ensures.0 ring.leave.ensures.1
+    leave-due _ _ _ _ _ _ _ c.if-i-eq384.true c.leave.ensures.0 c.leave.ensures.1
 
-leave-slot-requires : tie.Need-leave-slot-requires
+leave-slot-requires : tie.Need-leave_slot-requires
 leave-slot-requires c κs = search rules
 
-same-length-2 : tie.Need-same-length-2
+same-length-2 : tie.Need-shape_of-w
 same-length-2 c = search rules
 
-same-length-3 : tie.Need-same-length-3
+same-length-3 : tie.Need-shape_of-first
 same-length-3 c = search rules
 
-same-length-4 : tie.Need-same-length-4
+same-length-4 : tie.Need-shape_of-last
 same-length-4 c = search rules
 
-same-length-5 : tie.Need-same-length-5
+same-length-5 : tie.Need-shape_of-marks
 same-length-5 c = search rules
 
-returns-2 : tie.Need-returns-2
+returns-2 : tie.Need-returns
 returns-2 c =
-    let slot = c.before.before.before.before.before.before.before.before in
-    leave-slot _ _ _ _ _ _ _ slot.before.before.before.before.before.if1.false slot.leave-slot.ensures
+    leave-slot _ _ _ _ _ _ _ c.if-i-eq384.false c.leave_slot.ensures
 
-pub leave-at-spec : {M : Type 1} → statement M
-leave-at-spec =
+pub leave_at_spec : {M : Type 1} → statement M
+leave_at_spec =
     tie.close
     (tie.spec
     leave-requires

@@ -6,40 +6,38 @@ use borrow.Author.Rules.{rules}
 use Rattle.dial.proofs.turns.advance_turns.Statement.{statement}
 use Rattle.dial.proofs.turns.advance_turns.Tie as tie
 
-returns : tie.Need-returns
+returns : tie.Need-returns-then-t-gt4096
 unfolding ending_of
-returns c = advance-large _ _ c.if1.true
+returns c = advance-large _ _ c.if-t-gt4096.true
 
-returns-2 : tie.Need-returns-2
+returns-2 : tie.Need-returns-then-t-gt4294967295
 unfolding ending_of
-returns-2 c = advance-moved _ _ c.if2.true
+returns-2 c = advance-moved _ _ c.if-t-gt4294967295.true
 
 run-requires : tie.Need-run-requires
 run-requires c κs = search rules
 
-same_length : tie.Need-same-length
+same_length : tie.Need-shape_of-w
 same_length c = search rules
 
-same-length-2 : tie.Need-same-length-2
+same-length-2 : tie.Need-shape_of-first
 same-length-2 c = search rules
 
-same-length-3 : tie.Need-same-length-3
+same-length-3 : tie.Need-shape_of-last
 same-length-3 c = search rules
 
-same-length-4 : tie.Need-same-length-4
+same-length-4 : tie.Need-shape_of-marks
 same-length-4 c = search rules
 
-same-length-5 : tie.Need-same-length-5
+same-length-5 : tie.Need-shape_of-out
 same-length-5 c = search rules
 
-returns-3 : tie.Need-returns-3
+returns-3 : tie.Need-returns
 returns-3 c =
-    let ran = c.before.before.before.before.before.before.before.before.before.before in
-    let bounds = ran.before.before.before.before.before.before in
-    ran.run.ensures ∙ advance-runs _ _ bounds.before.before.if1.false bounds.if2.false
+    c.run.ensures ∙ advance-runs _ _ c.if-t-gt4096.false c.if-t-gt4294967295.false
 
-pub advance-turns-spec : {M : Type 1} → statement M
-advance-turns-spec =
+pub advance_turns_spec : {M : Type 1} → statement M
+advance_turns_spec =
     tie.close
     (tie.spec
     returns

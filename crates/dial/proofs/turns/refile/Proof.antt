@@ -7,35 +7,33 @@ use Rattle.dial.proofs.turns.refile.Tie as tie
 get-requires : tie.Need-get-requires
 get-requires c κs = search rules
 
-list-of-requires : tie.Need-list-of-requires
+list-of-requires : tie.Need-list_of-i-requires
 list-of-requires c κs = search rules
 
-join-at-requires : tie.Need-join-at-requires
+join-at-requires : tie.Need-join_at-due-requires
 join-at-requires c κs = search rules
 
 counted-requires : tie.Need-counted-requires
 counted-requires c κs = search rules
 
-same_length : tie.Need-same-length
+same_length : tie.Need-shape_of-w
 same_length c = search rules
 
-same-length-2 : tie.Need-same-length-2
+same-length-2 : tie.Need-shape_of-first
 same-length-2 c = search rules
 
-same-length-3 : tie.Need-same-length-3
+same-length-3 : tie.Need-shape_of-last
 same-length-3 c = search rules
 
-same-length-4 : tie.Need-same-length-4
+same-length-4 : tie.Need-shape_of-marks
 same-length-4 c = search rules
 
 returns : tie.Need-returns
 returns c =
-    let joins = c.before.before.before.before.before.before.before.before.before.before in
-    let place = joins.before.before.before.before.before in
-    λ out. refiled-is _ _ _ _ out _ _ _ _ _ place.before.get.ensures place.list_of.ensures joins.join-at.ensures c.counted.ensures
+    λ out. refiled-is _ _ _ _ out _ _ _ _ _ c.get.ensures c.list_of-i.ensures c.join_at-due.ensures c.counted.ensures
 
-pub refile-spec : {M : Type 1} → statement M
-refile-spec =
+pub refile_spec : {M : Type 1} → statement M
+refile_spec =
     tie.close
     (tie.spec
     get-requires

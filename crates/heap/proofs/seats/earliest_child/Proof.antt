@@ -4,23 +4,23 @@ use borrow.Author.Rules.{rules}
 use Rattle.heap.proofs.seats.earliest_child.Statement.{statement}
 use Rattle.heap.proofs.seats.earliest_child.Tie as tie
 
-add-if1 : tie.Need-overflow-add-if1
+add-if1 : tie.Need-overflow_add-first
 add-if1 c = search rules
 
-earliest-among-requires : tie.Need-earliest-among-requires
+earliest-among-requires : tie.Need-earliest_among-requires
 earliest-among-requires c κs = search rules
 
-returns : tie.Need-returns
-returns c = child-cut _ _ _ _ _ (search rules) c.earliest-among.ensures
+returns : tie.Need-returns-then-n-first
+returns c = child-cut _ _ _ _ _ (search rules) c.earliest_among.ensures
 
-earliest-of-requires : tie.Need-earliest-of-requires
+earliest-of-requires : tie.Need-earliest_of-requires
 earliest-of-requires c κs = search rules
 
-returns-2 : tie.Need-returns-2
-returns-2 c = child-whole _ _ _ _ _ (search rules) c.earliest-of.ensures
+returns-2 : tie.Need-returns
+returns-2 c = child-whole _ _ _ _ _ (search rules) c.earliest_of.ensures
 
-pub earliest-child-spec : {M : Type 1} → statement M
-earliest-child-spec =
+pub earliest_child_spec : {M : Type 1} → statement M
+earliest_child_spec =
     tie.close
     (tie.spec
     add-if1

@@ -5,35 +5,35 @@ use borrow.Author.Rules.{rules}
 use Rattle.heap.proofs.seats.earliest_of.Statement.{statement}
 use Rattle.heap.proofs.seats.earliest_of.Tie as tie
 
-of-four-requires : tie.Need-of-four-requires
+of-four-requires : tie.Need-of_four-requires
 of-four-requires c κs = search rules
 
-returns : tie.Need-returns
+returns : tie.Need-returns-then-d-eq4
 returns c = soonest-many _ _ _ _ _ _ c.of_four.ensures (omega arith)
 
-of-eight-requires : tie.Need-of-eight-requires
+of-eight-requires : tie.Need-of_eight-requires
 of-eight-requires c κs = search rules
 
-returns-2 : tie.Need-returns-2
-returns-2 c = soonest-many _ _ _ _ _ _ c.of-eight.ensures (omega arith)
+returns-2 : tie.Need-returns-then-d-eq8
+returns-2 c = soonest-many _ _ _ _ _ _ c.of_eight.ensures (omega arith)
 
-of-two-requires : tie.Need-of-two-requires
+of-two-requires : tie.Need-of_two-requires
 of-two-requires c κs = search rules
 
-returns-3 : tie.Need-returns-3
+returns-3 : tie.Need-returns-then-d-eq2
 returns-3 c = soonest-many _ _ _ _ _ _ c.of_two.ensures (omega arith)
 
-add-earliest-among : tie.Need-overflow-add-earliest-among
+add-earliest-among : tie.Need-overflow_add-first
 add-earliest-among c = search rules
 
-earliest-among-requires : tie.Need-earliest-among-requires
+earliest-among-requires : tie.Need-earliest_among-requires
 earliest-among-requires c κs = search rules
 
-returns-4 : tie.Need-returns-4
-returns-4 c = soonest-many _ _ _ _ _ _ c.earliest-among.ensures (omega arith)
+returns-4 : tie.Need-returns
+returns-4 c = soonest-many _ _ _ _ _ _ c.earliest_among.ensures (omega arith)
 
-pub earliest-of-spec : {M : Type 1} → statement M
-earliest-of-spec =
+pub earliest_of_spec : {M : Type 1} → statement M
+earliest_of_spec =
     tie.close
     (tie.spec
     of-four-requires

@@ -8,41 +8,38 @@ use borrow.Author.Rules.{rules}
 use Rattle.heap.proofs.seats.enter.Statement.{statement}
 use Rattle.heap.proofs.seats.enter.Tie as tie
 
-add-in-reach : tie.Need-overflow-add-in-reach
+add-in-reach : tie.Need-overflow_add-n
 add-in-reach c = search rules
 
-in-reach-requires : tie.Need-in-reach-requires
+in-reach-requires : tie.Need-in_reach-requires
 in-reach-requires c κs = search rules
 
-get-requires : tie.Need-get-requires
+get-requires : tie.Need-get-key-requires
 get-requires c κs = search rules
 
-get-requires-2 : tie.Need-get-requires-2
+get-requires-2 : tie.Need-get-order-requires
 get-requires-2 c κs = search rules
 
 rise-requires : tie.Need-rise-requires
 rise-requires c κs =
-    let reach = reach-true _ _ _ (sym c.before.before.before.before.before.before.in_reach.ensures ∙ c.before.before.before.before.before.if2.true) in
+    let reach = reach-true _ _ _ (sym c.in_reach.ensures ∙ c.if-in_reach.true) in
     (reach.0, omega arith)
 
-same_length : tie.Need-same-length
+same_length : tie.Need-shape_of-w-then-in_reach
 same_length c = search rules
 
-returns : tie.Need-returns
+returns : tie.Need-returns-then-in_reach
 returns c =
-    let up = c.before.before in
-    let reads = up.before.before in
-    let reach = reads.before.before.before.before in
     same-walk
-    (enter-in _ _ _ _ _ _ _ reach.before.in_reach.ensures reach.if2.true reads.before.before.get.ensures reads.get2.ensures)
-    up.rise.ensures.0
-    up.rise.ensures.1
+    (enter-in _ _ _ _ _ _ _ c.in_reach.ensures c.if-in_reach.true c.get-key.ensures c.get-order.ensures)
+    c.rise.ensures.0
+    c.rise.ensures.1
 
-returns-2 : tie.Need-returns-2
+returns-2 : tie.Need-returns-else-in_reach
 unfolding standing
-returns-2 c = same-walk (enter-out _ _ _ _ _ c.before.in_reach.ensures c.if2.false) refl refl
+returns-2 c = same-walk (enter-out _ _ _ _ _ c.in_reach.ensures c.if-in_reach.false) refl refl
 
-returns-3 : tie.Need-returns-3
+returns-3 : tie.Need-returns-else-n-lt4096
 unfolding standing
 returns-3 c = same-walk (enter-full _ _ _ _ (search rules)) refl refl
 

@@ -8,5 +8,5 @@ returns : tie.Need-returns
 unfolding ranked
 returns c = search rules
 
-pub is-before-spec : {M : Type 1} → statement M
-is-before-spec = tie.close (tie.spec returns)
+pub is_before_spec : {M : Type 1} → statement M
+is_before_spec = tie.close (tie.spec returns)

@@ -6,24 +6,24 @@ use borrow.Author.Rules.{rules}
 use Rattle.heap.proofs.seats.may_rise.Statement.{statement}
 use Rattle.heap.proofs.seats.may_rise.Tie as tie
 
-returns : tie.Need-returns
+returns : tie.Need-returns-then-p-eq0
 returns c = sym (may-rise-top _ _ _ _ _ (search rules))
 
-parent-of-requires : tie.Need-parent-of-requires
+parent-of-requires : tie.Need-parent_of-requires
 parent-of-requires c κs = search rules
 
-look-requires : tie.Need-look-requires
+look-requires : tie.Need-look-q-requires
 look-requires c κs = search rules
 
-is-before-requires : tie.Need-is-before-requires
+is-before-requires : tie.Need-is_before-requires
 is-before-requires c κs = search rules
 
-returns-2 : tie.Need-returns-2
+returns-2 : tie.Need-returns
 returns-2 c =
     may-rise-is _ _ _ _ _ _ _ (search rules)
-    (parent-seat _ _ _ _ _ c.before.before.parent_of.ensures c.before.look.ensures)
-    c.is-before.ensures
+    (parent-seat _ _ _ _ _ c.parent_of.ensures c.look-q.ensures)
+    c.is_before.ensures
 
-pub may-rise-spec : {M : Type 1} → statement M
-may-rise-spec =
+pub may_rise_spec : {M : Type 1} → statement M
+may_rise_spec =
     tie.close (tie.spec returns parent-of-requires look-requires is-before-requires returns-2)

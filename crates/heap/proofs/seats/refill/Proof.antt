@@ -5,41 +5,38 @@ use borrow.Author.Rules.{rules}
 use Rattle.heap.proofs.seats.refill.Statement.{statement}
 use Rattle.heap.proofs.seats.refill.Tie as tie
 
-sub-get : tie.Need-overflow-sub-get
+sub-get : tie.Need-overflow_sub-n
 sub-get c = search rules
 
-get-requires : tie.Need-get-requires
+get-requires : tie.Need-get-c-requires
 get-requires c κs = search rules
 
-sub-put : tie.Need-overflow-sub-put
+sub-put : tie.Need-overflow_sub-n-2
 sub-put c = search rules
 
 put-requires : tie.Need-put-requires
 put-requires c κs = search rules
 
-sub-settle : tie.Need-overflow-sub-settle
+sub-settle : tie.Need-overflow_sub-n-3
 sub-settle c = search rules
 
 settle-requires : tie.Need-settle-requires
 settle-requires c κs = search rules
 
-add-result : tie.Need-overflow-add-result
+add-result : tie.Need-overflow_add-result
 add-result c =
-    let from = c.before.before in
-    let few = settle-steps _ _ _ _ _ _ from.settle.ensures.1 (search rules) in
+    let few = settle-steps _ _ _ _ _ _ c.settle.ensures.1 (search rules) in
     omega arith
 
-same_length : tie.Need-same-length
+same_length : tie.Need-shape_of-w
 same_length c = search rules
 
 returns : tie.Need-returns
 returns c =
-    let from = c.before.before in
-    let written = from.before.before.before.before in
-    once_more_lem (refill-is _ _ _ _ written.before.before.get.ensures written.put.ensures) from.settle.ensures.0 from.settle.ensures.1
+    once_more_lem (refill-is _ _ _ _ c.get-c.ensures c.put.ensures) c.settle.ensures.0 c.settle.ensures.1
 
-pub refill-spec : {M : Type 1} → statement M
-refill-spec =
+pub refill_spec : {M : Type 1} → statement M
+refill_spec =
     tie.close
     (tie.spec
     sub-get

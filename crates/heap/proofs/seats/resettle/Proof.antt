@@ -9,48 +9,42 @@ use borrow.Author.Rules.{rules}
 use Rattle.heap.proofs.seats.resettle.Statement.{statement}
 use Rattle.heap.proofs.seats.resettle.Tie as tie
 
-in-reach-requires : tie.Need-in-reach-requires
+in-reach-requires : tie.Need-in_reach-requires
 in-reach-requires c κs = search rules
 
-returns : tie.Need-returns
+returns : tie.Need-returns-then-not-in_reach
 unfolding standing
-returns c = same-walk (resettle-out _ _ _ _ _ c.before.in_reach.ensures _ (not-true _ c.if1.true)) refl refl
+returns c = same-walk (resettle-out _ _ _ _ _ c.in_reach.ensures _ (c.if-not-in_reach.true)) refl refl
 
-settle-requires : tie.Need-settle-requires
+settle-requires : tie.Need-settle-steps-requires
 settle-requires c κs =
-    let reach = reach-true _ _ _ (sym c.before.before.in_reach.ensures ∙ not-false _ c.before.if1.false) in
+    let reach = reach-true _ _ _ (sym c.in_reach.ensures ∙ c.if-not-in_reach.false) in
     (reach.0, reach.1, reach.3, reach.2)
 
-same_length : tie.Need-same-length
+same_length : tie.Need-shape_of-w-then-steps-eq0
 same_length c = search rules
 
-returns-2 : tie.Need-returns-2
+returns-2 : tie.Need-returns-then-steps-eq0
 returns-2 c =
-    let from = c.before.before.before in
-    let reach = from.before.before in
-    resettle-still _ _ _ _ _ reach.before.in_reach.ensures _ _ (not-false _ reach.if1.false) c.if2.true from.settle.ensures.0
-    from.settle.ensures.1
+    resettle-still _ _ _ _ _ c.in_reach.ensures _ _ (c.if-not-in_reach.false) c.if-steps-eq0.true c.settle-steps.ensures.0
+    c.settle-steps.ensures.1
 
-add-result : tie.Need-overflow-add-result
+add-result : tie.Need-overflow_add-result
 add-result c =
-    let from = c.before.before.before in
-    let reach = from.before.before in
-    let bounds = reach-true _ _ _ (sym reach.before.in_reach.ensures ∙ not-false _ reach.if1.false) in
-    let few = settle-steps _ _ _ _ _ _ from.settle.ensures.1 bounds.3 in
+    let bounds = reach-true _ _ _ (sym c.in_reach.ensures ∙ c.if-not-in_reach.false) in
+    let few = settle-steps _ _ _ _ _ _ c.settle-steps.ensures.1 bounds.3 in
     omega arith
 
-same-length-2 : tie.Need-same-length-2
+same-length-2 : tie.Need-shape_of-w
 same-length-2 c = search rules
 
-returns-3 : tie.Need-returns-3
+returns-3 : tie.Need-returns
 returns-3 c =
-    let from = c.before.before.before in
-    let reach = from.before.before in
-    resettle-moves _ _ _ _ _ reach.before.in_reach.ensures _ _ (not-false _ reach.if1.false) c.if2.false from.settle.ensures.0
-    from.settle.ensures.1
+    resettle-moves _ _ _ _ _ c.in_reach.ensures _ _ (c.if-not-in_reach.false) c.if-steps-eq0.false c.settle-steps.ensures.0
+    c.settle-steps.ensures.1
 
-pub resettle-spec : {M : Type 1} → statement M
-resettle-spec =
+pub resettle_spec : {M : Type 1} → statement M
+resettle_spec =
     tie.close
     (tie.spec
     in-reach-requires

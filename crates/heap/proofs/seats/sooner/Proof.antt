@@ -4,7 +4,7 @@ use borrow.Author.Rules.{rules}
 use Rattle.heap.proofs.seats.sooner.Statement.{statement}
 use Rattle.heap.proofs.seats.sooner.Tie as tie
 
-is-before-requires : tie.Need-is-before-requires
+is-before-requires : tie.Need-is_before-t-requires
 is-before-requires c κs = search rules
 
 pick-requires : tie.Need-pick-requires
@@ -22,14 +22,14 @@ pick-requires-4 c κs = search rules
 returns : tie.Need-returns
 returns c =
     sooner-picked _ _ _ _ _ _ _
-    c.before.before.before.before.is-before.ensures
-    c.before.before.before.pick.ensures
-    c.before.before.pick2.ensures
-    c.before.pick3.ensures
-    c.pick4.ensures
+    c.is_before-t.ensures
+    c.pick.ensures
+    c.pick-2.ensures
+    c.pick-3.ensures
+    c.pick-4.ensures
 
-pub sooner-spec : {M : Type 1} → statement M
-sooner-spec =
+pub sooner_spec : {M : Type 1} → statement M
+sooner_spec =
     tie.close
     (tie.spec
     is-before-requires

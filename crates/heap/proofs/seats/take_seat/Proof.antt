@@ -10,13 +10,12 @@ put-requires c κs = search rules
 put-requires-2 : tie.Need-put-requires-2
 put-requires-2 c κs = search rules
 
-same_length : tie.Need-same-length
+same_length : tie.Need-shape_of-w
 same_length c = search rules
 
 returns : tie.Need-returns
 returns c =
-    let second = c.before.before in
-    seated-is _ _ _ second.before.before.before.before.put.ensures second.put2.ensures
+    seated-is _ _ _ c.put.ensures c.put-2.ensures
 
-pub take-seat-spec : {M : Type 1} → statement M
-take-seat-spec = tie.close (tie.spec put-requires put-requires-2 same_length returns)
+pub take_seat_spec : {M : Type 1} → statement M
+take_seat_spec = tie.close (tie.spec put-requires put-requires-2 same_length returns)
