@@ -1,4 +1,5 @@
 // The part of the audit that every engine shares.
+#![tactic(auto)]
 
 pub mod audit;
 pub mod cell;

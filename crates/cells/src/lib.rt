@@ -1,4 +1,5 @@
 // Cells in lent memory: eight words to a cell.
+#![tactic(auto)]
 
 pub mod stack;
 pub mod store;

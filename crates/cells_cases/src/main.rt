@@ -1,4 +1,5 @@
 // Tries the shared audit on a small store as calls leave it, and on the same memory with one thing broken, and prints each verdict.
+#![tactic(auto)]
 
 use audits::audit::audit;
 use cells::store::{SetUp, Store, claim, release, set_up};

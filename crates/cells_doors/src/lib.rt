@@ -1,4 +1,5 @@
 // The shared audit for programs in other languages, on plain numbers and lent words: the benchmark links it.
+#![tactic(auto)]
 
 ghost use Rattle.std.specs.Prelude.{true, ◌↔◌, ◌≡◌};
 ghost use Rattle.cells.specs.Rules.{Sound};

@@ -1,4 +1,5 @@
 // The dial: what happens to a wheel's lists as the clock turns.
+#![tactic(auto)]
 
 pub mod firing;
 pub mod lists;

@@ -1,3 +1,4 @@
 // The d-ary heap in lent words.
+#![tactic(auto)]
 
 pub mod seats;

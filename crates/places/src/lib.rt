@@ -1,4 +1,5 @@
 // Ticks as digits to the base 64: the level, the slot and the wake tick of a deadline.
+#![tactic(auto)]
 
 ghost use Rattle.std.specs.Prelude.{◌≡◌};
 ghost use Rattle.places.specs.Ticks.{digit, level as level_of};

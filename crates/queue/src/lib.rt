@@ -1,4 +1,5 @@
 // The ready queue: a d-ary heap with handles over the cell store.
+#![tactic(auto)]
 
 pub mod audit;
 pub mod checked;

@@ -1,5 +1,6 @@
 // One trace of calls on a ready queue for programs in other languages: the benchmark links it. This is a benchmark's harness, so that its contracts
 // are modest: what it is proved to do is to end, and to stay within the lent words. What the queue's calls do is promised where they stand.
+#![tactic(auto)]
 
 use queue::head::{Head, PutAnswer, RekeyAnswer, RemoveAnswer, SetUp, TakeAnswer};
 use queue::in_place::{put, rekey, remove, take};

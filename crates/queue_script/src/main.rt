@@ -1,4 +1,5 @@
 // Drives a ready queue by lines of standard input, and prints an answer for each.
+#![tactic(auto)]
 
 mod answers;
 mod calls;

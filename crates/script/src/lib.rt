@@ -1,4 +1,5 @@
 // Lines in, lines out: a script line read from bytes, and answer lines written into lent bytes.
+#![tactic(auto)]
 
 pub mod chunks;
 pub mod reading;

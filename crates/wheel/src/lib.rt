@@ -1,4 +1,5 @@
 // The wheel: a hierarchical timing wheel of six levels of 64 slots over the cell store.
+#![tactic(auto)]
 
 pub mod audit;
 pub mod checked;

@@ -1,5 +1,6 @@
 // One trace of calls on a wheel for programs in other languages: the benchmark links it. This is a benchmark's harness, so that its contracts are modest:
 // what it is proved to do is to end, and to stay within the lent words and arrays. What the wheel's calls do is promised where they stand.
+#![tactic(auto)]
 
 use wheel::head::{AdvanceAnswer, ArmAnswer, CancelAnswer, Dial, MoveAnswer, SetUpAnswer};
 use wheel::in_place::{advance, arm, cancel, move_to};

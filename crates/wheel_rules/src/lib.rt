@@ -1,4 +1,5 @@
 // The rules of the wheel, and their audit over lent arrays.
+#![tactic(auto)]
 
 pub mod audit;
 pub mod order;

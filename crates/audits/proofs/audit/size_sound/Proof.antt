@@ -7,17 +7,17 @@ use Rattle.audits.proofs.audit.size_sound.Tie as tie
 use Rattle.audits.proofs.audit.size_sound.Reads as reads
 use Rattle.audits.proofs.audit.size_sound.Lts as lts
 
-returns : tie.Need-returns
+returns : tie.Need-returns-then-s-le4096
 returns c = size-counter _ _ (search rules) (search rules) (search rules)
 
-returns-2 : tie.Need-returns-2
+returns-2 : tie.Need-returns-else-s-le4096
 returns-2 c = size-many _ _ (search rules)
 
-returns-3 : tie.Need-returns-3
+returns-3 : tie.Need-returns-else-s-ge1
 returns-3 c = size_none _ _ (search rules)
 
-returns-4 : tie.Need-returns-4
+returns-4 : tie.Need-returns-else-s-cells
 returns-4 c = size-other _ _ (search rules)
 
-pub size-sound-spec : {M : Type 1} → statement M
-size-sound-spec = tie.close (tie.spec returns returns-2 returns-3 returns-4)
+pub size_sound_spec : {M : Type 1} → statement M
+size_sound_spec = tie.close (tie.spec returns returns-2 returns-3 returns-4)

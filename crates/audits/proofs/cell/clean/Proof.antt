@@ -11,11 +11,11 @@ use Rattle.audits.proofs.cell.clean.Tie as tie
 get-requires : tie.Need-get-requires
 get-requires c κs = search rules
 
-returns : tie.Need-returns
-returns c = rw (eq-eqb (c.before.before.before.args.rest % 2) 1 (search rules)) (ap (λ (x : ℕ). eqb x 0) c.get.ensures)
+returns : tie.Need-returns-then-rest-eq1
+returns c = rw (eq-eqb (c.args.rest % 2) 1 (search rules)) (ap (λ (x : ℕ). eqb x 0) c.get.ensures)
 
-returns-2 : tie.Need-returns-2
-returns-2 c = rw (ne_eqb (c.before.before.args.rest % 2) 1 (search rules))
+returns-2 : tie.Need-returns
+returns-2 c = rw (ne_eqb (c.args.rest % 2) 1 (search rules))
 
-pub clean-spec : {M : Type 1} → statement M
-clean-spec = tie.close (tie.spec get-requires returns returns-2)
+pub clean_spec : {M : Type 1} → statement M
+clean_spec = tie.close (tie.spec get-requires returns returns-2)

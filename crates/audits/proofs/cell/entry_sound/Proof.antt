@@ -15,11 +15,11 @@ numbered-requires c κs = search rules
 blank-requires : tie.Need-blank-requires
 blank-requires c κs = search rules
 
-returns : tie.Need-returns
-returns c = rw (sym c.before.before.numbered.ensures ∙ c.before.if1.true) c.blank.ensures
+returns : tie.Need-returns-then-numbered
+returns c = rw (sym c.numbered.ensures ∙ c.if-numbered.true) c.blank.ensures
 
-returns-2 : tie.Need-returns-2
-returns-2 c = rw (sym c.before.numbered.ensures ∙ c.if1.false)
+returns-2 : tie.Need-returns
+returns-2 c = rw (sym c.numbered.ensures ∙ c.if-numbered.false)
 
-pub entry-sound-spec : {M : Type 1} → statement M
-entry-sound-spec = tie.close (tie.spec numbered-requires blank-requires returns returns-2)
+pub entry_sound_spec : {M : Type 1} → statement M
+entry_sound_spec = tie.close (tie.spec numbered-requires blank-requires returns returns-2)

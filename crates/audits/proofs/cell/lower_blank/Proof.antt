@@ -11,42 +11,42 @@ use Rattle.audits.proofs.cell.lower_blank.Reads as reads
 use Rattle.audits.proofs.cell.lower_blank.Lts as lts
 use Rattle.audits.proofs.cell.clean.Reads as clean-reads
 
-abbrev invariant-loop : tie.invariant-loop
+abbrev invariant-loop : tie.invariant-loop-f
 invariant-loop w m c f₀ rest₀ f rest = (f ≤ 4) × Clear w m c f rest
 
-abbrev decreases-loop : tie.decreases-loop
+abbrev decreases-loop : tie.decreases-loop-f
 decreases-loop w m c f₀ rest₀ f rest = 4 - f
 
-returns : tie.Need-returns invariant-loop decreases-loop
-returns c = lower-none _ _ _ c.if1.true
+returns : tie.Need-returns-then-m-eq0 invariant-loop decreases-loop
+returns c = lower-none _ _ _ c.if-m-eq0.true
 
-loop-holds : tie.Need-loop-init invariant-loop decreases-loop
+loop-holds : tie.Need-loop-f-init invariant-loop decreases-loop
 loop-holds c = (omega arith, clear_none _ _ _)
 
 clean-requires : tie.Need-clean-requires invariant-loop decreases-loop
 clean-requires c κs = search rules
 
-returns-2 : tie.Need-returns-2 invariant-loop decreases-loop
+returns-2 : tie.Need-returns-then-not-clean invariant-loop decreases-loop
 returns-2 c =
-    let at = c.before.before.before.loop.invariant in
-    clear-fails _ _ _ _ _ at.1 _ c.before.clean.ensures _ (search rules) (not-true _ c.if2.true)
+    let at = c.loop-f.invariant in
+    clear-fails _ _ _ _ _ at.1 _ c.clean.ensures _ (search rules) (c.if-not-clean.true)
 
-add-f : tie.Need-overflow-add-f invariant-loop decreases-loop
+add-f : tie.Need-overflow_add-f invariant-loop decreases-loop
 add-f c = omega arith
 
-loop-less : tie.Need-loop-smaller invariant-loop decreases-loop
+loop-less : tie.Need-loop-f-smaller invariant-loop decreases-loop
 loop-less c = omega arith
 
-loop-again : tie.Need-loop-preserved invariant-loop decreases-loop
+loop-again : tie.Need-loop-f-preserved invariant-loop decreases-loop
 loop-again c =
-    let at = c.before.before.before.loop.invariant in
-    (omega arith, clear_next _ _ _ _ _ at.1 _ c.before.clean.ensures (not-false _ c.if2.false))
+    let at = c.loop-f.invariant in
+    (omega arith, clear_next _ _ _ _ _ at.1 _ c.clean.ensures (c.if-not-clean.false))
 
-returns-3 : tie.Need-returns-3 invariant-loop decreases-loop
-returns-3 c = clear-all _ _ _ _ _ _ (omega arith) c.before.loop.invariant.1
+returns-3 : tie.Need-returns invariant-loop decreases-loop
+returns-3 c = clear-all _ _ _ _ _ _ (omega arith) c.loop-f.invariant.1
 
-pub lower-blank-spec : {M : Type 1} → statement M
-lower-blank-spec =
+pub lower_blank_spec : {M : Type 1} → statement M
+lower_blank_spec =
     tie.close
     (tie.spec
     invariant-loop

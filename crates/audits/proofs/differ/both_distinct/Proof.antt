@@ -11,32 +11,32 @@ use Rattle.audits.proofs.differ.distinct.Reads as distinct-reads
 distinct-requires : tie.Need-distinct-requires
 distinct-requires c κs = search rules
 
-distinct-requires-2 : tie.Need-distinct-requires-2
+distinct-requires-2 : tie.Need-distinct-requires-then-distinct
 distinct-requires-2 c κs = search rules
 
-same_length : tie.Need-same-length
+same_length : tie.Need-shape_of-a-then-distinct
 same_length c = search rules
 
-same-length-2 : tie.Need-same-length-2
+same-length-2 : tie.Need-shape_of-spare-then-distinct
 same-length-2 c = search rules
 
-returns : tie.Need-returns
+returns : tie.Need-returns-then-distinct
 returns c =
-    let first = c.before.before.before.before.before.before.before.before.before.before.before.before.distinct in
-    both-second _ _ _ _ _ first.ensures.0 c.before.before.before.before.before.before.before.if1.true first.ensures.1
-    c.before.before.before.before.distinct2.ensures.0
+    let first = c.distinct in
+    both-second _ _ _ _ _ first.ensures.0 c.if-distinct.true first.ensures.1
+    c.distinct-then-distinct.ensures.0
 
-same-length-3 : tie.Need-same-length-3
+same-length-3 : tie.Need-shape_of-a
 same-length-3 c = search rules
 
-same-length-4 : tie.Need-same-length-4
+same-length-4 : tie.Need-shape_of-spare
 same-length-4 c = search rules
 
-returns-2 : tie.Need-returns-2
-returns-2 c = both_first _ _ _ c.before.before.before.before.before.distinct.ensures.0 c.if1.false
+returns-2 : tie.Need-returns
+returns-2 c = both_first _ _ _ c.distinct.ensures.0 c.if-distinct.false
 
-pub both-distinct-spec : {M : Type 1} → statement M
-both-distinct-spec =
+pub both_distinct_spec : {M : Type 1} → statement M
+both_distinct_spec =
     tie.close
     (tie.spec
     distinct-requires

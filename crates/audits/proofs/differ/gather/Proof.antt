@@ -14,60 +14,60 @@ use Rattle.audits.proofs.differ.gather.Reads as reads
 use Rattle.audits.proofs.differ.gather.Lts as lts
 use Rattle.audits.proofs.differ.note.Reads as note-reads
 
-abbrev invariant-loop : tie.invariant-loop
+abbrev invariant-loop : tie.invariant-loop-c
 invariant-loop w n a₀ c₀ m₀ a c m =
     (c ≤ n) × (m ≡ length (used_below w c)) × (a ≡ used_below w c ++ drop m a₀)
 
-abbrev decreases-loop : tie.decreases-loop
+abbrev decreases-loop : tie.decreases-loop-c
 decreases-loop w n a₀ c₀ m₀ a c m = n - c
 
-loop-holds : tie.Need-loop-init invariant-loop decreases-loop
+loop-holds : tie.Need-loop-c-init invariant-loop decreases-loop
 unfolding used_below
 loop-holds c = (omega arith, refl, refl)
 
-note-requires : tie.Need-note-requires invariant-loop decreases-loop
+note-requires : tie.Need-note-m-requires invariant-loop decreases-loop
 note-requires c κs =
-    let at = c.before.before.loop in
-    let start = c.before.before.before.before.before.args in (
+    let at = c.loop-c in
+    let start = c.args in (
       omega arith,
       omega (arith, used-length start.w.now at.c, gather-length start.w.now start.a.now at.a at.c at.m at.invariant.1 (omega arith) at.invariant.2),
     )
 
-add-c : tie.Need-overflow-add-c invariant-loop decreases-loop
+add-c : tie.Need-overflow_add-c invariant-loop decreases-loop
 add-c c = omega arith
 
-loop-less : tie.Need-loop-smaller invariant-loop decreases-loop
+loop-less : tie.Need-loop-c-smaller invariant-loop decreases-loop
 loop-less c = omega arith
 
-loop-again : tie.Need-loop-preserved invariant-loop decreases-loop
+loop-again : tie.Need-loop-c-preserved invariant-loop decreases-loop
 loop-again c =
-    let at = c.before.before.before.before.before.loop in (
+    let at = c.loop-c in (
       omega arith,
-      c.before.before.note.ensures.0 ∙ gather-count _ _ _ at.invariant.1,
+      c.note-m.ensures.0 ∙ gather-count _ _ _ at.invariant.1,
       gather-step _ _ _ _ _ _ _ at.invariant.1
-          (omega (arith, used-length c.before.before.before.before.before.before.before.before.args.w.now at.c))
+          (omega (arith, used-length c.args.w.now at.c))
           at.invariant.2
-          c.before.before.note.ensures.0
-          c.before.before.note.ensures.1,
+          c.note-m.ensures.0
+          c.note-m.ensures.1,
     )
 
-same_length : tie.Need-same-length invariant-loop decreases-loop
+same_length : tie.Need-shape_of-a invariant-loop decreases-loop
 same_length c =
-    gather-length _ _ _ _ _ c.before.loop.invariant.1 (omega arith) c.before.loop.invariant.2
+    gather-length _ _ _ _ _ c.loop-c.invariant.1 (omega arith) c.loop-c.invariant.2
 
 returns : tie.Need-returns invariant-loop decreases-loop
 returns c =
-    let e : c.before.loop.c ≡ c.before.before.before.before.args.n = omega arith in (
-      c.before.loop.invariant.1 ∙ ap (λ (k : ℕ). length (used_below c.before.before.before.before.args.w.now k)) e,
-      c.before.loop.invariant.2
+    let e : c.loop-c.c ≡ c.args.n = omega arith in (
+      c.loop-c.invariant.1 ∙ ap (λ (k : ℕ). length (used_below c.args.w.now k)) e,
+      c.loop-c.invariant.2
           ∙ ap
-          (λ (k : ℕ). used_below c.before.before.before.before.args.w.now k
-          ++ drop c.before.loop.m c.before.before.before.before.args.a.now)
+          (λ (k : ℕ). used_below c.args.w.now k
+          ++ drop c.loop-c.m c.args.a.now)
           e,
     )
 
-pub gather-spec : {M : Type 1} → statement M
-gather-spec =
+pub gather_spec : {M : Type 1} → statement M
+gather_spec =
     tie.close
     (tie.spec
     invariant-loop

@@ -11,28 +11,28 @@ use Rattle.cells.proofs.words.get.Reads as get-reads
 get-requires : tie.Need-get-requires
 get-requires c κs = search rules
 
-returns : tie.Need-returns
-returns c = let e = not-in-use _ _ _ c.before.get.ensures (search rules) in (rw e, rw e)
+returns : tie.Need-returns-then-get-eq0
+returns c = let e = not-in-use _ _ _ c.get.ensures (search rules) in (rw e, rw e)
 
-cast-a : tie.Need-overflow-cast-a
+cast-a : tie.Need-overflow_cast-a
 cast-a c = search rules
 
-mul-a : tie.Need-overflow-mul-a
+mul-a : tie.Need-offset_bounds-a-m
 mul-a c = search rules
 
-slice-write-a : tie.Need-slice-write-a
+slice-write-a : tie.Need-bounds-a-m
 slice-write-a c = search rules
 
-add-result : tie.Need-overflow-add-result
+add-result : tie.Need-overflow_add-result
 add-result c = search rules
 
-same_length : tie.Need-same-length
+same_length : tie.Need-shape_of-a
 same_length c = search rules
 
-returns-2 : tie.Need-returns-2
-returns-2 c = let e = in_use_lem _ _ _ c.before.get.ensures (search rules) in (rw e, rw e)
+returns-2 : tie.Need-returns
+returns-2 c = let e = in_use_lem _ _ _ c.get.ensures (search rules) in (rw e, rw e)
 
-pub note-spec : {M : Type 1} → statement M
-note-spec =
+pub note_spec : {M : Type 1} → statement M
+note_spec =
     tie.close
     (tie.spec get-requires returns cast-a mul-a slice-write-a add-result same_length returns-2)

@@ -13,46 +13,46 @@ use Rattle.audits.proofs.differ.used_distinct.Lts as lts
 use Rattle.audits.proofs.differ.both_distinct.Reads as both-distinct-reads
 use Rattle.audits.proofs.differ.gather.Reads as gather-reads
 
-gather-requires : tie.Need-gather-requires
+gather-requires : tie.Need-gather-m-requires
 gather-requires c κs = search rules
 
-slice-relend-prefix-both-distinct : tie.Need-slice-relend-prefix-both-distinct
+slice-relend-prefix-both-distinct : tie.Need-slice_bounds-both_distinct-end
 slice-relend-prefix-both-distinct c =
-    let g = c.before.before.gather in
+    let g = c.gather-m in
     gathered-fit _ _ _ _ _ g.ensures.0 g.ensures.1 (search rules)
 
-slice-aggregate-both-distinct : tie.Need-slice-aggregate-both-distinct
+slice-aggregate-both-distinct : tie.Need-slice_bounds-both_distinct-end-2
 slice-aggregate-both-distinct c =
-    let g = c.before.before.before.gather in
+    let g = c.gather-m in
     sym (gathered-length _ _ _ _ _ g.ensures.0 g.ensures.1)
 
-slice-relend-prefix-both-distinct-2 : tie.Need-slice-relend-prefix-both-distinct-2
+slice-relend-prefix-both-distinct-2 : tie.Need-slice_bounds-both_distinct-end-3
 slice-relend-prefix-both-distinct-2 c =
-    omega (arith, gathered-few _ _ _ c.before.before.before.gather.ensures.0)
+    omega (arith, gathered-few _ _ _ c.gather-m.ensures.0)
 
-slice-aggregate-both-distinct-2 : tie.Need-slice-aggregate-both-distinct-2
+slice-aggregate-both-distinct-2 : tie.Need-slice_bounds-both_distinct-end-4
 slice-aggregate-both-distinct-2 c =
-    sym (length-take-le _ _ (omega (arith, gathered-few _ _ _ c.before.before.before.before.gather.ensures.0)))
+    sym (length-take-le _ _ (omega (arith, gathered-few _ _ _ c.gather-m.ensures.0)))
 
-both-distinct-requires : tie.Need-both-distinct-requires
+both-distinct-requires : tie.Need-both_distinct-requires
 both-distinct-requires c κs =
-    let g = c.before.before.before.before.gather in
+    let g = c.gather-m in
     gathered-length _ _ _ _ _ g.ensures.0 g.ensures.1
     ∙ sym (length-take-le _ _ (omega (arith, gathered-few _ _ _ g.ensures.0)))
 
-same_length : tie.Need-same-length
+same_length : tie.Need-shape_of-a
 same_length c = search rules
 
-same-length-2 : tie.Need-same-length-2
+same-length-2 : tie.Need-shape_of-spare
 same-length-2 c = search rules
 
 returns : tie.Need-returns
 returns c =
-    let g = c.before.before.before.before.before.before.before.before.before.gather in
-    c.before.before.before.before.both-distinct.ensures ∙ ap (differ_test _) (gathered-take _ _ _ _ _ g.ensures.0 g.ensures.1)
+    let g = c.gather-m in
+    c.both_distinct.ensures ∙ ap (differ_test _) (gathered-take _ _ _ _ _ g.ensures.0 g.ensures.1)
 
-pub used-distinct-spec : {M : Type 1} → statement M
-used-distinct-spec =
+pub used_distinct_spec : {M : Type 1} → statement M
+used_distinct_spec =
     tie.close
     (tie.spec
     gather-requires

@@ -13,45 +13,45 @@ use Rattle.audits.proofs.stack.stack_sound.Lts as lts
 use Rattle.audits.proofs.stack.stands.Reads as stands-reads
 use Rattle.cells.proofs.words.get.Reads as get-reads
 
-abbrev invariant-loop : tie.invariant-loop
+abbrev invariant-loop : tie.invariant-loop-left
 invariant-loop w n free top links c₀ left₀ c left =
     walks w (stands_as w n (blank_test w free)) top links ≡ walks w (stands_as w n (blank_test w free)) c left
 
-abbrev decreases-loop : tie.decreases-loop
+abbrev decreases-loop : tie.decreases-loop-left
 decreases-loop w n free top links c₀ left₀ c left = left
 
-loop-holds : tie.Need-loop-init invariant-loop decreases-loop
+loop-holds : tie.Need-loop-left-init invariant-loop decreases-loop
 loop-holds c = search rules
 
 stands-requires : tie.Need-stands-requires invariant-loop decreases-loop
 stands-requires c κs = search rules
 
-returns : tie.Need-returns invariant-loop decreases-loop
+returns : tie.Need-returns-then-not-stands invariant-loop decreases-loop
 returns c =
     sym
-    (c.before.before.before.loop.invariant
-    ∙ walks-stuck _ _ _ _ (search rules) (sym c.before.stands.ensures ∙ not-true _ c.if1.true))
+    (c.loop-left.invariant
+    ∙ walks-stuck _ _ _ _ (search rules) (sym c.stands.ensures ∙ c.if-not-stands.true))
 
-get-requires : tie.Need-get-requires invariant-loop decreases-loop
+get-requires : tie.Need-get-c-requires invariant-loop decreases-loop
 get-requires c κs = search rules
 
-sub-left : tie.Need-overflow-sub-left invariant-loop decreases-loop
+sub-left : tie.Need-overflow_sub-left invariant-loop decreases-loop
 sub-left c = search rules
 
-loop-less : tie.Need-loop-smaller invariant-loop decreases-loop
+loop-less : tie.Need-loop-left-smaller invariant-loop decreases-loop
 loop-less c = search rules
 
-loop-again : tie.Need-loop-preserved invariant-loop decreases-loop
+loop-again : tie.Need-loop-left-preserved invariant-loop decreases-loop
 loop-again c =
-    rw c.get.ensures
-    (c.before.before.before.before.loop.invariant
-    ∙ walks-on _ _ _ _ (search rules) (sym c.before.before.stands.ensures ∙ not-false _ c.before.if1.false))
+    rw c.get-c.ensures
+    (c.loop-left.invariant
+    ∙ walks-on _ _ _ _ (search rules) (sym c.stands.ensures ∙ c.if-not-stands.false))
 
-returns-2 : tie.Need-returns-2 invariant-loop decreases-loop
-returns-2 c = sym (c.before.loop.invariant ∙ walks-end _ _ _ _ (search rules))
+returns-2 : tie.Need-returns invariant-loop decreases-loop
+returns-2 c = sym (c.loop-left.invariant ∙ walks-end _ _ _ _ (search rules))
 
-pub stack-sound-spec : {M : Type 1} → statement M
-stack-sound-spec =
+pub stack_sound_spec : {M : Type 1} → statement M
+stack_sound_spec =
     tie.close
     (tie.spec
     invariant-loop

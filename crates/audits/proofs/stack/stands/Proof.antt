@@ -11,25 +11,24 @@ use Rattle.audits.proofs.stack.stands.Lts as lts
 use Rattle.audits.proofs.cell.blank.Reads as blank-reads
 use Rattle.cells.proofs.stack.is_free.Reads as is-free-reads
 
-is-free-requires : tie.Need-is-free-requires
+is-free-requires : tie.Need-is_free-requires
 is-free-requires c κs = search rules
 
 blank-requires : tie.Need-blank-requires
 blank-requires c κs = search rules
 
-returns : tie.Need-returns
+returns : tie.Need-returns-then-is_free
 unfolding stands_as
 returns c =
-    let free = c.before in
-    rw (stands-below _ _ _ free.before.before.if1.true ∙ sym free.before.is_free.ensures ∙ free.if2.true) c.blank.ensures
+    rw (stands-below _ _ _ c.if-c-n.true ∙ sym c.is_free.ensures ∙ c.if-is_free.true) c.blank.ensures
 
-returns-2 : tie.Need-returns-2
+returns-2 : tie.Need-returns-else-is_free
 unfolding stands_as
-returns-2 c = rw (stands-below _ _ _ c.before.before.if1.true ∙ sym c.before.is_free.ensures ∙ c.if2.false)
+returns-2 c = rw (stands-below _ _ _ c.if-c-n.true ∙ sym c.is_free.ensures ∙ c.if-is_free.false)
 
-returns-3 : tie.Need-returns-3
+returns-3 : tie.Need-returns-else-c-n
 unfolding stands_as
-returns-3 c = rw (stands-past _ _ _ c.if1.false)
+returns-3 c = rw (stands-past _ _ _ c.if-c-n.false)
 
-pub stands-spec : {M : Type 1} → statement M
-stands-spec = tie.close (tie.spec is-free-requires blank-requires returns returns-2 returns-3)
+pub stands_spec : {M : Type 1} → statement M
+stands_spec = tie.close (tie.spec is-free-requires blank-requires returns returns-2 returns-3)

@@ -9,21 +9,21 @@ use Rattle.audits.proofs.sweep.swept.Lts as lts
 use Rattle.audits.proofs.sweep.sweep_few.Reads as sweep-few-reads
 use Rattle.audits.proofs.sweep.sweep_many.Reads as sweep-many-reads
 
-sweep-few-requires : tie.Need-sweep-few-requires
+sweep-few-requires : tie.Need-sweep_few-requires
 sweep-few-requires c κs = search rules
 
-returns : tie.Need-returns
+returns : tie.Need-returns-then-n-le-FEW
 returns c = search rules
 
-sweep-many-requires : tie.Need-sweep-many-requires
+sweep-many-requires : tie.Need-sweep_many-requires
 sweep-many-requires c κs = search rules
 
-returns-2 : tie.Need-returns-2
+returns-2 : tie.Need-returns-then-n-le-MOST
 returns-2 c = search rules
 
-returns-3 : tie.Need-returns-3
+returns-3 : tie.Need-returns
 returns-3 c = swept-many _ _ _ _ (search rules)
 
-pub swept-spec : {M : Type 1} → statement M
-swept-spec =
+pub swept_spec : {M : Type 1} → statement M
+swept_spec =
     tie.close (tie.spec sweep-few-requires returns sweep-many-requires returns-2 returns-3)

@@ -10,46 +10,44 @@ use Rattle.audits.proofs.table.look_on.Reads as look-on-reads
 use Rattle.audits.proofs.table.start.Reads as start-reads
 use Rattle.cells.proofs.words.get.Reads as get-reads
 
-get-requires : tie.Need-get-requires
+get-requires : tie.Need-get-key-requires
 get-requires c κs = search rules
 
-start-requires : tie.Need-start-requires
+start-requires : tie.Need-start-i-requires
 start-requires c κs = search rules
 
-mul-d : tie.Need-overflow-mul-d
+mul-d : tie.Need-offset_bounds-t-i
 mul-d c = search rules
 
-slice-read-d : tie.Need-slice-read-d
+slice-read-d : tie.Need-bounds-t-i
 slice-read-d c = search rules
 
-cast_t : tie.Need-overflow-cast-t
+cast_t : tie.Need-overflow_cast-t
 cast_t c = search rules
 
-mul-t : tie.Need-overflow-mul-t
+mul-t : tie.Need-offset_bounds-t-i-then-d-eq-EMPTY
 mul-t c = search rules
 
-slice-write-t : tie.Need-slice-write-t
+slice-write-t : tie.Need-bounds-t-i-then-d-eq-EMPTY
 slice-write-t c = search rules
 
-same_length : tie.Need-same-length
+same_length : tie.Need-shape_of-t-then-d-eq-EMPTY
 same_length c = search rules
 
-returns : tie.Need-returns
+returns : tie.Need-returns-then-d-eq-EMPTY
 returns c =
-    let begun = c.before.before.before in
-    enters-at-once _ _ _ _ _ _ _ _ (search rules) begun.before.get.ensures begun.start.ensures (search rules) (search rules)
+    enters-at-once _ _ _ _ _ _ _ _ (search rules) c.get-key.ensures c.start-i.ensures (search rules) (search rules)
 
-look-on-requires : tie.Need-look-on-requires
+look-on-requires : tie.Need-look_on-requires
 look-on-requires c κs = search rules
 
-same-length-2 : tie.Need-same-length-2
+same-length-2 : tie.Need-shape_of-t
 same-length-2 c = search rules
 
-returns-2 : tie.Need-returns-2
+returns-2 : tie.Need-returns
 returns-2 c =
-    let begun = c.before.before.before.before.before in
-    enters-looking _ _ _ _ _ _ _ _ _ _ (search rules) begun.before.get.ensures begun.start.ensures
-    c.before.before.look-on.ensures
+    enters-looking _ _ _ _ _ _ _ _ _ _ (search rules) c.get-key.ensures c.start-i.ensures
+    c.look_on.ensures
 
 pub enter_spec : {M : Type 1} → statement M
 enter_spec =

@@ -8,15 +8,15 @@ use Rattle.audits.proofs.table.evenly.Tie as tie
 use Rattle.audits.proofs.table.evenly.Reads as reads
 use Rattle.audits.proofs.table.evenly.Lts as lts
 
-add-result : tie.Need-overflow-add-result
+add-result : tie.Need-overflow_add-result
 add-result c = search rules
 
-mul-result : tie.Need-overflow-mul-result
+mul-result : tie.Need-overflow_mul-result
 mul-result c = search rules
 
 returns : tie.Need-returns
 unfolding evenly
 returns c = refl
 
-pub evenly-spec : {M : Type 1} → statement M
-evenly-spec = tie.close (tie.spec add-result mul-result returns)
+pub evenly_spec : {M : Type 1} → statement M
+evenly_spec = tie.close (tie.spec add-result mul-result returns)

@@ -10,18 +10,18 @@ use Rattle.audits.proofs.table.scatter.Tie as tie
 use Rattle.audits.proofs.table.scatter.Reads as reads
 use Rattle.audits.proofs.table.scatter.Lts as lts
 
-add-result : tie.Need-overflow-add-result
+add-result : tie.Need-overflow_add-result
 add-result c = search rules
 
-mul-result : tie.Need-overflow-mul-result
+mul-result : tie.Need-overflow_mul-result
 mul-result c = omega (arith, halves-fit c.args.x)
 
-mul-result-2 : tie.Need-overflow-mul-result-2
+mul-result-2 : tie.Need-overflow_mul-result-2
 mul-result-2 c = omega (arith, halves-fit c.args.x)
 
 returns : tie.Need-returns
 unfolding scattered
 returns c = refl
 
-pub scatter-spec : {M : Type 1} → statement M
-scatter-spec = tie.close (tie.spec add-result mul-result mul-result-2 returns)
+pub scatter_spec : {M : Type 1} → statement M
+scatter_spec = tie.close (tie.spec add-result mul-result mul-result-2 returns)

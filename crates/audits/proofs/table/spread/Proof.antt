@@ -16,17 +16,17 @@ evenly-requires c κs = search rules
 scatter-requires : tie.Need-scatter-requires
 scatter-requires c κs = search rules
 
-returns : tie.Need-returns
+returns : tie.Need-returns-then-k
 unfolding spread_of
-returns c = rw c.before.before.if1.true (c.scatter.ensures ∙ ap scattered c.before.evenly.ensures)
+returns c = rw c.if-k.true (c.scatter.ensures ∙ ap scattered c.evenly.ensures)
 
 evenly-requires-2 : tie.Need-evenly-requires-2
 evenly-requires-2 c κs = search rules
 
-returns-2 : tie.Need-returns-2
+returns-2 : tie.Need-returns
 unfolding spread_of
-returns-2 c = rw c.before.if1.false c.evenly2.ensures
+returns-2 c = rw c.if-k.false c.evenly-2.ensures
 
-pub spread-spec : {M : Type 1} → statement M
-spread-spec =
+pub spread_spec : {M : Type 1} → statement M
+spread_spec =
     tie.close (tie.spec evenly-requires scatter-requires returns evenly-requires-2 returns-2)
