@@ -14,49 +14,44 @@ use Rattle.queue.proofs.audit.head_sound.Reads as head-sound-reads
 use Rattle.queue.proofs.audit.rest_blank.Reads as rest-blank-reads
 use Rattle.queue.proofs.audit.seats_sound.Reads as seats-sound-reads
 
-head-sound-requires : tie.Need-head-sound-requires
+head-sound-requires : tie.Need-head_sound-requires
 head-sound-requires c κs = search rules
 
-returns : tie.Need-returns
-returns c = fails-head _ _ _ c.before.head-sound.ensures (not-true _ c.if1.true)
+returns : tie.Need-returns-then-not-head_sound
+returns c = fails-head _ _ _ c.head_sound.ensures (c.if-not-head_sound.true)
 
-audit-and-count-requires : tie.Need-audit-and-count-requires
+audit-and-count-requires : tie.Need-audit_and_count-shared-requires
 audit-and-count-requires c κs = search rules
 
-returns-2 : tie.Need-returns-2
-returns-2 c = fails-shared _ _ _ c.before.before.audit-and-count.ensures (not-true _ c.if2.true)
+returns-2 : tie.Need-returns-then-not-shared
+returns-2 c = fails-shared _ _ _ c.audit_and_count-shared.ensures (not-true _ c.if-not-shared.true)
 
-sub-if3 : tie.Need-overflow-sub-if3
+sub-if3 : tie.Need-overflow_sub-s
 sub-if3 c =
-    let head = c.before.before.before.before.before.before in
-    omega (arith, (head-rule _ (sym head.before.head-sound.ensures ∙ not-false _ head.if1.false)).fits)
+    omega (arith, (head-rule _ (sym c.head_sound.ensures ∙ c.if-not-head_sound.false)).fits)
 
-returns-3 : tie.Need-returns-3
+returns-3 : tie.Need-returns-then-s-h
 returns-3 c =
-    let seen = c.before.before.before.before in
-    fails-count _ _ _ seen.before.before.audit-and-count.ensures (not-false _ seen.if2.false) (search rules)
+    fails-count _ _ _ c.audit_and_count-shared.ensures (not-false _ c.if-not-shared.false) (search rules)
 
-seats-sound-requires : tie.Need-seats-sound-requires
+seats-sound-requires : tie.Need-seats_sound-requires
 seats-sound-requires c κs =
-    let head = c.before.before.before.before.before.before.before.before in
-    omega (arith, (head-rule _ (sym head.before.head-sound.ensures ∙ not-false _ head.if1.false)).some)
+    omega (arith, (head-rule _ (sym c.head_sound.ensures ∙ c.if-not-head_sound.false)).some)
 
-returns-4 : tie.Need-returns-4
-returns-4 c = fails-seats _ _ _ c.before.seats-sound.ensures (not-true _ c.if4.true)
+returns-4 : tie.Need-returns-then-not-seats_sound
+returns-4 c = fails-seats _ _ _ c.seats_sound.ensures (c.if-not-seats_sound.true)
 
-rest-blank-requires : tie.Need-rest-blank-requires
+rest-blank-requires : tie.Need-rest_blank-requires
 rest-blank-requires c κs = search rules
 
-returns-5 : tie.Need-returns-5
+returns-5 : tie.Need-returns
 returns-5 c =
-    let seen = c.before.before.before.before.before.before.before in
-    let head = seen.before.before.before.before in
-    passes-all _ _ _ seen.before.before.audit-and-count.ensures (not-false _ seen.if2.false) _ head.before.head-sound.ensures
-    (not-false _ head.if1.false) (search rules) _ _ c.before.before.seats-sound.ensures (not-false _ c.before.if4.false)
-    c.rest-blank.ensures
+    passes-all _ _ _ c.audit_and_count-shared.ensures (not-false _ c.if-not-shared.false) _ c.head_sound.ensures
+    (c.if-not-head_sound.false) (search rules) _ _ c.seats_sound.ensures (c.if-not-seats_sound.false)
+    c.rest_blank.ensures
 
-pub audit-spec : {M : Type 1} → statement M
-audit-spec =
+pub audit_spec : {M : Type 1} → statement M
+audit_spec =
     tie.close
     (tie.spec
     head-sound-requires

@@ -15,38 +15,38 @@ use Rattle.queue.proofs.audit.rest_blank.Reads as reads
 use Rattle.queue.proofs.audit.rest_blank.Lts as lts
 use Rattle.cells.proofs.words.get.Reads as get-reads
 
-abbrev invariant-loop : tie.invariant-loop
+abbrev invariant-loop : tie.invariant-loop-p
 invariant-loop w count n p₀ p = (count ≤ p) × (all_below p (beyond_test w count) ≡ true)
 
-abbrev decreases-loop : tie.decreases-loop
+abbrev decreases-loop : tie.decreases-loop-p
 decreases-loop w count n p₀ p = n - p
 
-loop-holds : tie.Need-loop-init invariant-loop decreases-loop
+loop-holds : tie.Need-loop-p-init invariant-loop decreases-loop
 loop-holds c = (omega arith, beyond-none _ _)
 
 get-requires : tie.Need-get-requires invariant-loop decreases-loop
 get-requires c κs = search rules
 
-returns : tie.Need-returns invariant-loop decreases-loop
+returns : tie.Need-returns-then-get-ne0 invariant-loop decreases-loop
 returns c =
-    let at = c.before.before.before.loop.invariant in
-    sym (below_fails _ _ _ (search rules) (beyond-other _ _ _ _ at.0 c.before.get.ensures (search rules)))
+    let at = c.loop-p.invariant in
+    sym (below_fails _ _ _ (search rules) (beyond-other _ _ _ _ at.0 c.get.ensures (search rules)))
 
-add-p : tie.Need-overflow-add-p invariant-loop decreases-loop
+add-p : tie.Need-overflow_add-p invariant-loop decreases-loop
 add-p c = search rules
 
-loop-less : tie.Need-loop-smaller invariant-loop decreases-loop
+loop-less : tie.Need-loop-p-smaller invariant-loop decreases-loop
 loop-less c = search rules
 
-loop-again : tie.Need-loop-preserved invariant-loop decreases-loop
+loop-again : tie.Need-loop-p-preserved invariant-loop decreases-loop
 loop-again c =
-    let at = c.before.before.before.loop.invariant in
-    (omega arith, below_step _ _ at.1 (beyond-zero _ _ _ _ at.0 c.before.get.ensures (search rules)))
+    let at = c.loop-p.invariant in
+    (omega arith, below_step _ _ at.1 (beyond-zero _ _ _ _ at.0 c.get.ensures (search rules)))
 
-returns-2 : tie.Need-returns-2 invariant-loop decreases-loop
-returns-2 c = beyond-end _ _ _ _ c.before.loop.invariant.0 (search rules) c.before.loop.invariant.1
+returns-2 : tie.Need-returns invariant-loop decreases-loop
+returns-2 c = beyond-end _ _ _ _ c.loop-p.invariant.0 (search rules) c.loop-p.invariant.1
 
-pub rest-blank-spec : {M : Type 1} → statement M
-rest-blank-spec =
+pub rest_blank_spec : {M : Type 1} → statement M
+rest_blank_spec =
     tie.close
     (tie.spec invariant-loop decreases-loop loop-holds get-requires returns add-p loop-less loop-again returns-2)

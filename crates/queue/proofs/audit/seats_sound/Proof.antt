@@ -17,55 +17,54 @@ use Rattle.queue.proofs.audit.seats_sound.Lts as lts
 use Rattle.queue.proofs.audit.family_of.Reads as family-of-reads
 use Rattle.queue.proofs.audit.seat_sound.Reads as seat-sound-reads
 
-abbrev invariant-loop : tie.invariant-loop
+abbrev invariant-loop : tie.invariant-loop-p
 invariant-loop w d n count f₀ p₀ f p = (p ≤ count) × Turn w d p f × (all_below p (seat_test w d n) ≡ true)
 
-abbrev decreases-loop : tie.decreases-loop
+abbrev decreases-loop : tie.decreases-loop-p
 decreases-loop w d n count f₀ p₀ f p = count - p
 
-loop-holds : tie.Need-loop-init invariant-loop decreases-loop
+loop-holds : tie.Need-loop-p-init invariant-loop decreases-loop
 unfolding all_below
 loop-holds c = (omega arith, turn-root _ _ (search rules), refl)
 
-family-of-requires : tie.Need-family-of-requires invariant-loop decreases-loop
-family-of-requires c κs = omega (arith, c.before.loop.invariant.1.early)
+family-of-requires : tie.Need-family_of-f-requires invariant-loop decreases-loop
+family-of-requires c κs = omega (arith, c.loop-p.invariant.1.early)
 
-seat-sound-requires : tie.Need-seat-sound-requires invariant-loop decreases-loop
+seat-sound-requires : tie.Need-seat_sound-requires invariant-loop decreases-loop
 seat-sound-requires c κs = search rules
 
-returns : tie.Need-returns invariant-loop decreases-loop
+returns : tie.Need-returns-then-not-seat_sound invariant-loop decreases-loop
 returns c =
-    let own = turn-own _ _ (search rules) _ _ _ c.before.before.family-of.ensures c.before.before.before.before.loop.invariant.1 in
+    let own = turn-own _ _ (search rules) _ _ _ c.family_of-f.ensures c.loop-p.invariant.1 in
     sym
     (below_fails _ _ _ (search rules)
-    (sym (own-seat _ _ (search rules) _ _ _ own) ∙ sym c.before.seat-sound.ensures ∙ not-true _ c.if1.true))
+    (sym (own-seat _ _ (search rules) _ _ _ own) ∙ sym c.seat_sound.ensures ∙ c.if-not-seat_sound.true))
 
-sub-f : tie.Need-overflow-sub-f invariant-loop decreases-loop
+sub-f : tie.Need-overflow_sub-f invariant-loop decreases-loop
 sub-f c =
-    let family = c.before.before.before in
-    (turn-own _ _ (search rules) _ _ _ family.family-of.ensures family.before.before.loop.invariant.1).some
+    (turn-own _ _ (search rules) _ _ _ c.family_of-f.ensures c.loop-p.invariant.1).some
 
-add-p : tie.Need-overflow-add-p invariant-loop decreases-loop
+add-p : tie.Need-overflow_add-p invariant-loop decreases-loop
 add-p c = search rules
 
-loop-less : tie.Need-loop-smaller invariant-loop decreases-loop
+loop-less : tie.Need-loop-p-smaller invariant-loop decreases-loop
 loop-less c = search rules
 
-loop-again : tie.Need-loop-preserved invariant-loop decreases-loop
+loop-again : tie.Need-loop-p-preserved invariant-loop decreases-loop
 loop-again c =
-    let at = c.before.before.before.before.before.loop.invariant in
-    let own = turn-own _ _ (search rules) _ _ _ c.before.before.before.family-of.ensures at.1 in (
+    let at = c.loop-p.invariant in
+    let own = turn-own _ _ (search rules) _ _ _ c.family_of-f.ensures at.1 in (
       omega arith,
       own_turn _ _ (search rules) _ _ _ refl refl refl refl own,
       below_step _ _ at.2
-          (sym (own-seat _ _ (search rules) _ _ _ own) ∙ sym c.before.before.seat-sound.ensures ∙ not-false _ c.before.if1.false),
+          (sym (own-seat _ _ (search rules) _ _ _ own) ∙ sym c.seat_sound.ensures ∙ c.if-not-seat_sound.false),
     )
 
-returns-2 : tie.Need-returns-2 invariant-loop decreases-loop
-returns-2 c = below_end _ _ _ (omega arith) c.before.loop.invariant.2
+returns-2 : tie.Need-returns invariant-loop decreases-loop
+returns-2 c = below_end _ _ _ (omega arith) c.loop-p.invariant.2
 
-pub seats-sound-spec : {M : Type 1} → statement M
-seats-sound-spec =
+pub seats_sound_spec : {M : Type 1} → statement M
+seats_sound_spec =
     tie.close
     (tie.spec
     invariant-loop

@@ -10,17 +10,16 @@ use Rattle.queue.proofs.checked.first.Tie as tie
 audit-requires : tie.Need-audit-requires
 audit-requires c κs = search rules
 
-returns : tie.Need-returns
+returns : tie.Need-returns-then-not-audit
 unfolding told_first
-returns c = refused-broken _ _ _ _ c.before.audit.ensures (not-true _ c.if1.true)
+returns c = refused-broken _ _ _ _ c.audit.ensures (c.if-not-audit.true)
 
 first-requires : tie.Need-first-requires
 first-requires c κs = search rules
 
-returns-2 : tie.Need-returns-2
+returns-2 : tie.Need-returns
 returns-2 c =
-    let audited = c.before in
-    passed-sound _ _ _ _ audited.before.audit.ensures _ _ _ (not-false _ audited.if1.false) c.first.ensures
+    passed-sound _ _ _ _ c.audit.ensures _ _ _ (c.if-not-audit.false) c.first.ensures
 
 pub first_spec : {M : Type 1} → statement M
 first_spec = tie.close (tie.spec audit-requires returns first-requires returns-2)

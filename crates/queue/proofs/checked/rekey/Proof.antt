@@ -10,24 +10,22 @@ use Rattle.queue.proofs.checked.rekey.Tie as tie
 audit-requires : tie.Need-audit-requires
 audit-requires c κs = search rules
 
-same_length : tie.Need-same-length
+same_length : tie.Need-shape_of-w-then-not-audit
 same_length c = search rules
 
-returns : tie.Need-returns
+returns : tie.Need-returns-then-not-audit
 unfolding told_rekey
-returns c = refused-broken _ _ _ _ c.before.audit.ensures (not-true _ c.if1.true)
+returns c = refused-broken _ _ _ _ c.audit.ensures (c.if-not-audit.true)
 
 rekey-requires : tie.Need-rekey-requires
 rekey-requires c κs = search rules
 
-same-length-2 : tie.Need-same-length-2
+same-length-2 : tie.Need-shape_of-w
 same-length-2 c = search rules
 
-returns-2 : tie.Need-returns-2
+returns-2 : tie.Need-returns
 returns-2 c =
-    let done = c.before.before in
-    let audited = done.before.before in
-    passed-sound _ _ _ _ audited.before.audit.ensures _ _ _ (not-false _ audited.if1.false) done.rekey.ensures
+    passed-sound _ _ _ _ c.audit.ensures _ _ _ (c.if-not-audit.false) c.rekey.ensures
 
-pub rekey-spec : {M : Type 1} → statement M
-rekey-spec = tie.close (tie.spec audit-requires same_length returns rekey-requires same-length-2 returns-2)
+pub rekey_spec : {M : Type 1} → statement M
+rekey_spec = tie.close (tie.spec audit-requires same_length returns rekey-requires same-length-2 returns-2)

@@ -16,7 +16,7 @@ get-requires-3 c κs = search rules
 
 returns : tie.Need-returns
 unfolding found_in
-returns c = rw (c.before.before.get.ensures, c.before.get2.ensures, c.get3.ensures)
+returns c = rw (c.get.ensures, c.get-2.ensures, c.get-3.ensures)
 
-pub found-spec : {M : Type 1} → statement M
-found-spec = tie.close (tie.spec get-requires get-requires-2 get-requires-3 returns)
+pub found_spec : {M : Type 1} → statement M
+found_spec = tie.close (tie.spec get-requires get-requires-2 get-requires-3 returns)

@@ -6,46 +6,42 @@ use borrow.Author.Rules.{rules}
 use Rattle.queue.proofs.in_place.put.Statement.{statement}
 use Rattle.queue.proofs.in_place.put.Tie as tie
 
-returns : tie.Need-returns
+returns : tie.Need-returns-then-n-gt4096
 unfolding told_put
 returns c = over _ _ _ _ _ (search rules)
 
-claim-requires : tie.Need-claim-requires
+claim-requires : tie.Need-claim-claimed-requires
 claim-requires c κs = search rules
 
-enum-known-answer : tie.Need-enum-known-answer
+enum-known-answer : tie.Need-enum_known-answer
 enum-known-answer c = search rules
 
-enum-known-answer-2 : tie.Need-enum-known-answer-2
+enum-known-answer-2 : tie.Need-enum_known-answer-in-Taken-1
 enum-known-answer-2 c = search rules
 
-enter-requires : tie.Need-enter-requires
+enter-requires : tie.Need-enter-moves-requires
 enter-requires c κs = search rules
 
-add-t22 : tie.Need-overflow-add-t22
+add-t22 : tie.Need-overflow_add-result
 add-t22 c = search rules
 
-same_length : tie.Need-same-length
+same_length : tie.Need-shape_of-w-in-Refused
 same_length c = search rules
 
-returns-2 : tie.Need-returns-2
+returns-2 : tie.Need-returns-in-Refused
 unfolding told_put
 returns-2 c =
-    let claimed = c.before.before.before.before.before.before in
-    put_refused _ _ _ _ _ _ _ claimed.claim.ensures.0 c.before.answer.given.1 claimed.claim.ensures.1.1
+    put_refused _ _ _ _ _ _ _ c.claim-claimed.ensures.0 c.in-Refused.is c.claim-claimed.ensures.1.1
 
-same-length-2 : tie.Need-same-length-2
+same-length-2 : tie.Need-shape_of-w-in-Taken
 same-length-2 c = search rules
 
-returns-3 : tie.Need-returns-3
+returns-3 : tie.Need-returns-in-Taken
 unfolding told_put
 returns-3 c =
-    let entered = c.before.before in
-    let told = entered.before.before.before in
-    let claimed = told.before.before.before.before.before in
-    put-entered _ _ _ _ _ _ _ _ _ _ _ claimed.claim.ensures.0 told.answer2.given.1
-    claimed.claim.ensures.1.0 claimed.claim.ensures.1.1
-    entered.enter.ensures.0 entered.enter.ensures.1
+    put-entered _ _ _ _ _ _ _ _ _ _ _ c.claim-claimed.ensures.0 c.in-Taken.is
+    c.claim-claimed.ensures.1.0 c.claim-claimed.ensures.1.1
+    c.enter-moves.ensures.0 c.enter-moves.ensures.1
 
 pub put_spec : {M : Type 1} → statement M
 put_spec = tie.close (tie.spec returns claim-requires enum-known-answer enum-known-answer-2 enter-requires add-t22 same_length returns-2 same-length-2 returns-3)

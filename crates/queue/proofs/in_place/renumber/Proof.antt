@@ -4,7 +4,7 @@ use borrow.Author.Rules.{rules}
 use Rattle.queue.proofs.in_place.renumber.Statement.{statement}
 use Rattle.queue.proofs.in_place.renumber.Tie as tie
 
-get-requires : tie.Need-get-requires
+get-requires : tie.Need-get-p-requires
 get-requires c κs = search rules
 
 put-requires : tie.Need-put-requires
@@ -16,18 +16,15 @@ put-requires-2 c κs = search rules
 resettle-requires : tie.Need-resettle-requires
 resettle-requires c κs = search rules
 
-same_length : tie.Need-same-length
+same_length : tie.Need-shape_of-w
 same_length c = search rules
 
 returns : tie.Need-returns
 returns c =
-    let settled = c.before.before in
-    let second = settled.before.before.before.before in
-    let first = second.before.before.before.before in
-    let place = first.before.before.get.ensures in (
-      rw (← place, ← first.put.ensures, ← second.put2.ensures) settled.resettle.ensures.0,
-      rw (← place, ← first.put.ensures, ← second.put2.ensures) settled.resettle.ensures.1,
+    let place = c.get-p.ensures in (
+      rw (← place, ← c.put.ensures, ← c.put-2.ensures) c.resettle.ensures.0,
+      rw (← place, ← c.put.ensures, ← c.put-2.ensures) c.resettle.ensures.1,
     )
 
-pub renumber-spec : {M : Type 1} → statement M
-renumber-spec = tie.close (tie.spec get-requires put-requires put-requires-2 resettle-requires same_length returns)
+pub renumber_spec : {M : Type 1} → statement M
+renumber_spec = tie.close (tie.spec get-requires put-requires put-requires-2 resettle-requires same_length returns)

@@ -31,50 +31,50 @@ ready w w' d result s some most least limit answer is words =
     let both = accepted-both w d right (arity-right d least limit) in
     (rw (store-ready w right result s answer is) (sym both.0), words ∙ (set-up-right w right).1 ∙ sym both.1)
 
-returns : tie.Need-returns
+returns : tie.Need-returns-then-n-eq0
 returns c = refused-size _ _ (size_none _ (search rules))
 
-returns-2 : tie.Need-returns-2
+returns-2 : tie.Need-returns-then-n-gt4096
 returns-2 c = refused-size _ _ (size-over _ (search rules))
 
-returns-3 : tie.Need-returns-3
+returns-3 : tie.Need-returns-then-d-lt2
 returns-3 c = refused-arity _ _ (size-right _ (search rules) (search rules)) (arity-under _ (search rules))
 
-returns-4 : tie.Need-returns-4
+returns-4 : tie.Need-returns-then-d-gt8
 returns-4 c = refused-arity _ _ (size-right _ (search rules) (search rules)) (arity-over _ (search rules))
 
-set-up-requires : tie.Need-set-up-requires
+set-up-requires : tie.Need-set_up-made-requires
 set-up-requires c κs = search rules
 
-enum-known-made : tie.Need-enum-known-made
+enum-known-made : tie.Need-enum_known-made
 enum-known-made c = search rules
 
-enum-known-made-2 : tie.Need-enum-known-made-2
+enum-known-made-2 : tie.Need-enum_known-made-in-Ready-1
 enum-known-made-2 c = search rules
 
-same_length : tie.Need-same-length
+same_length : tie.Need-shape_of-w-in-Refused
 same_length c = search rules
 
-returns-5 : tie.Need-returns-5
+returns-5 : tie.Need-returns-in-Refused
 returns-5 c =
     absurd (
     store-stands _ (size-right _ (search rules) (search rules)) _ _
-    c.before.before.before.before.before.set-up.ensures.0
-    c.before.made.given.1
+    c.set_up-made.ensures.0
+    c.in-Refused.is
     )
 
-same-length-2 : tie.Need-same-length-2
+same-length-2 : tie.Need-shape_of-w-in-Ready
 same-length-2 c = search rules
 
-returns-6 : tie.Need-returns-6
+returns-6 : tie.Need-returns-in-Ready
 returns-6 c =
     ready _ _ _ _ _ (search rules) (search rules) (search rules) (search rules)
-    c.before.before.before.before.before.set-up.ensures.0
-    c.before.made2.given.1
-    c.before.before.before.before.before.set-up.ensures.1
+    c.set_up-made.ensures.0
+    c.in-Ready.is
+    c.set_up-made.ensures.1
 
-pub set-up-spec : {M : Type 1} → statement M
-set-up-spec =
+pub set_up_spec : {M : Type 1} → statement M
+set_up_spec =
     tie.close
     (tie.spec
     returns

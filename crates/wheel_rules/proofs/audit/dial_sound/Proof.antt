@@ -8,5 +8,5 @@ use Rattle.wheel_rules.proofs.audit.dial_sound.Tie as tie
 returns : tie.Need-returns
 returns c = dial-clock _ (search rules)
 
-pub dial-sound-spec : {M : Type 1} → statement M
-dial-sound-spec = tie.close (tie.spec returns)
+pub dial_sound_spec : {M : Type 1} → statement M
+dial_sound_spec = tie.close (tie.spec returns)

@@ -6,95 +6,95 @@ use Rattle.wheel_rules.proofs.Audits.{audit-dial, audit-shared, audit-arrays, au
 use Rattle.wheel_rules.proofs.audit.lent_sound.Statement.{statement}
 use Rattle.wheel_rules.proofs.audit.lent_sound.Tie as tie
 
-dial-sound-requires : tie.Need-dial-sound-requires
+dial-sound-requires : tie.Need-dial_sound-requires
 dial-sound-requires c κs = search rules
 
-returns : tie.Need-returns
+returns : tie.Need-returns-then-not-dial_sound
 returns c =
     audit-answers _ _ _
     (audit-dial _ _
     _
-    c.before.dial-sound.ensures
-    (not-true _ c.if1.true))
+    c.dial_sound.ensures
+    (c.if-not-dial_sound.true))
 
-audit-and-count-requires : tie.Need-audit-and-count-requires
+audit-and-count-requires : tie.Need-audit_and_count-v-requires
 audit-and-count-requires c κs = search rules
 
-returns-2 : tie.Need-returns-2
+returns-2 : tie.Need-returns-then-not-v
 returns-2 c =
     audit-answers _ _ _
     (audit-shared _ _
     _
-    c.before.before.before.before.before.dial-sound.ensures
-    (not-false _ c.before.before.before.before.if1.false)
+    c.dial_sound.ensures
+    (c.if-not-dial_sound.false)
     _
-    c.before.before.audit-and-count.ensures
-    (not-true _ c.if2.true))
+    c.audit_and_count-v.ensures
+    (not-true _ c.if-not-v.true))
 
-arrays-sound-requires : tie.Need-arrays-sound-requires
+arrays-sound-requires : tie.Need-arrays_sound-requires
 arrays-sound-requires c κs = search rules
 
-returns-3 : tie.Need-returns-3
+returns-3 : tie.Need-returns-then-not-arrays_sound
 returns-3 c =
     audit-answers _ _ _
     (audit-arrays _ _
     _
-    c.before.before.before.before.before.before.before.dial-sound.ensures
-    (not-false _ c.before.before.before.before.before.before.if1.false)
+    c.dial_sound.ensures
+    (c.if-not-dial_sound.false)
     _
-    c.before.before.before.before.audit-and-count.ensures
-    (not-false _ c.before.before.if2.false)
+    c.audit_and_count-v.ensures
+    (not-false _ c.if-not-v.false)
     _
-    c.before.arrays-sound.ensures
-    (not-true _ c.if3.true))
+    c.arrays_sound.ensures
+    (c.if-not-arrays_sound.true))
 
-marks-sound-requires : tie.Need-marks-sound-requires
+marks-sound-requires : tie.Need-marks_sound-requires
 marks-sound-requires c κs = search rules
 
-returns-4 : tie.Need-returns-4
+returns-4 : tie.Need-returns-then-not-marks_sound
 returns-4 c =
     audit-answers _ _ _
     (audit-marks _ _
     _
-    c.before.before.before.before.before.before.before.before.before.dial-sound.ensures
-    (not-false _ c.before.before.before.before.before.before.before.before.if1.false)
+    c.dial_sound.ensures
+    (c.if-not-dial_sound.false)
     _
-    c.before.before.before.before.before.before.audit-and-count.ensures
-    (not-false _ c.before.before.before.before.if2.false)
+    c.audit_and_count-v.ensures
+    (not-false _ c.if-not-v.false)
     _
-    c.before.before.before.arrays-sound.ensures
-    (not-false _ c.before.before.if3.false)
+    c.arrays_sound.ensures
+    (c.if-not-arrays_sound.false)
     _
-    c.before.marks-sound.ensures
-    (not-true _ c.if4.true))
+    c.marks_sound.ensures
+    (c.if-not-marks_sound.true))
 
-lists-sound-requires : tie.Need-lists-sound-requires
+lists-sound-requires : tie.Need-lists_sound-requires
 lists-sound-requires c κs =
     audit-counted _ _ _ _ _
-    c.before.before.before.before.before.before.audit-and-count.ensures
-    (not-false _ c.before.before.before.before.if2.false)
+    c.audit_and_count-v.ensures
+    (not-false _ c.if-not-v.false)
 
-returns-5 : tie.Need-returns-5
+returns-5 : tie.Need-returns
 returns-5 c =
     audit-answers _ _ _
     (audit-lists _ _
     _
-    c.before.before.before.before.before.before.before.before.before.before.dial-sound.ensures
-    (not-false _ c.before.before.before.before.before.before.before.before.before.if1.false)
+    c.dial_sound.ensures
+    (c.if-not-dial_sound.false)
     _
-    c.before.before.before.before.before.before.before.audit-and-count.ensures
-    (not-false _ c.before.before.before.before.before.if2.false)
+    c.audit_and_count-v.ensures
+    (not-false _ c.if-not-v.false)
     _
-    c.before.before.before.before.arrays-sound.ensures
-    (not-false _ c.before.before.before.if3.false)
+    c.arrays_sound.ensures
+    (c.if-not-arrays_sound.false)
     _
-    c.before.before.marks-sound.ensures
-    (not-false _ c.before.if4.false)
+    c.marks_sound.ensures
+    (c.if-not-marks_sound.false)
     _
-    c.lists-sound.ensures)
+    c.lists_sound.ensures)
 
-pub lent-sound-spec : {M : Type 1} → statement M
-lent-sound-spec =
+pub lent_sound_spec : {M : Type 1} → statement M
+lent_sound_spec =
     tie.close
     (tie.spec
     dial-sound-requires

@@ -11,22 +11,22 @@ get-requires c κs = search rules
 get-requires-2 : tie.Need-get-requires-2
 get-requires-2 c κs = search rules
 
-get-requires-3 : tie.Need-get-requires-3
+get-requires-3 : tie.Need-get-requires-then-get
 get-requires-3 c κs = search rules
 
-get-requires-4 : tie.Need-get-requires-4
+get-requires-4 : tie.Need-get-requires-then-get-2
 get-requires-4 c κs = search rules
 
-returns : tie.Need-returns
+returns : tie.Need-returns-then-get
 returns c =
-    rise-equal _ _ _ _ _ c.before.before.before.before.get.ensures c.before.before.before.get2.ensures _ _ (search rules)
-    c.before.get3.ensures
-    c.get4.ensures
+    rise-equal _ _ _ _ _ c.get.ensures c.get-2.ensures _ _ (search rules)
+    c.get-then-get.ensures
+    c.get-then-get-2.ensures
 
-returns-2 : tie.Need-returns-2
-returns-2 c = rise-other _ _ _ _ _ c.before.before.get.ensures c.before.get2.ensures (search rules)
+returns-2 : tie.Need-returns
+returns-2 c = rise-other _ _ _ _ _ c.get.ensures c.get-2.ensures (search rules)
 
-pub pair-rises-spec : {M : Type 1} → statement M
-pair-rises-spec =
+pub pair_rises_spec : {M : Type 1} → statement M
+pair_rises_spec =
     tie.close
     (tie.spec get-requires get-requires-2 get-requires-3 get-requires-4 returns returns-2)

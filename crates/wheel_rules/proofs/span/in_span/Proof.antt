@@ -9,5 +9,5 @@ returns : tie.Need-returns
 unfolding in_span
 returns c = search rules
 
-pub in-span-spec : {M : Type 1} → statement M
-in-span-spec = tie.close (tie.spec returns)
+pub in_span_spec : {M : Type 1} → statement M
+in_span_spec = tie.close (tie.spec returns)
