@@ -9,29 +9,27 @@ use Rattle.wheel.proofs.checked.advance.Tie as tie
 audit-requires : tie.Need-audit-requires
 audit-requires c κs = search rules
 
-same_length : tie.Need-same-length
+same_length : tie.Need-shape_of-w-then-not-audit
 same_length c = search rules
 
-returns : tie.Need-returns
-returns c = advance-broken _ _ _ c.before.audit.ensures _ _ (not-true _ c.if1.true)
+returns : tie.Need-returns-then-not-audit
+returns c = advance-broken _ _ _ c.audit.ensures _ _ (c.if-not-audit.true)
 
 advance-requires : tie.Need-advance-requires
 advance-requires c κs = search rules
 
-same-length-2 : tie.Need-same-length-2
+same-length-2 : tie.Need-shape_of-w
 same-length-2 c = search rules
 
-same-length-3 : tie.Need-same-length-3
+same-length-3 : tie.Need-shape_of-out
 same-length-3 c = search rules
 
-returns-2 : tie.Need-returns-2
+returns-2 : tie.Need-returns
 returns-2 c =
-    let done = c.before.before.before.before in
-    let audited = done.before.before.before in
-    advance-sound _ _ _ audited.before.audit.ensures _ _ _ _ _ _ (not-false _ audited.if1.false) done.advance.ensures
+    advance-sound _ _ _ c.audit.ensures _ _ _ _ _ _ (c.if-not-audit.false) c.advance.ensures
 
-pub advance-spec : {M : Type 1} → statement M
-advance-spec =
+pub advance_spec : {M : Type 1} → statement M
+advance_spec =
     tie.close
     (tie.spec
     audit-requires

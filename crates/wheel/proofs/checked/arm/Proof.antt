@@ -10,27 +10,25 @@ use Rattle.wheel.proofs.checked.arm.Tie as tie
 audit-requires : tie.Need-audit-requires
 audit-requires c κs = search rules
 
-same_length : tie.Need-same-length
+same_length : tie.Need-shape_of-w-then-not-audit
 same_length c = search rules
 
-returns : tie.Need-returns
+returns : tie.Need-returns-then-not-audit
 unfolding told_arm
-returns c = refused-broken _ _ _ c.before.audit.ensures _ (not-true _ c.if1.true)
+returns c = refused-broken _ _ _ c.audit.ensures _ (c.if-not-audit.true)
 
 arm-requires : tie.Need-arm-requires
 arm-requires c κs = search rules
 
-same-length-2 : tie.Need-same-length-2
+same-length-2 : tie.Need-shape_of-w
 same-length-2 c = search rules
 
-returns-2 : tie.Need-returns-2
+returns-2 : tie.Need-returns
 returns-2 c =
-    let done = c.before.before in
-    let audited = done.before.before in
-    passed-sound _ _ _ audited.before.audit.ensures _ _ _ _ (not-false _ audited.if1.false) done.arm.ensures
+    passed-sound _ _ _ c.audit.ensures _ _ _ _ (c.if-not-audit.false) c.arm.ensures
 
-pub arm-spec : {M : Type 1} → statement M
-arm-spec =
+pub arm_spec : {M : Type 1} → statement M
+arm_spec =
     tie.close
     (tie.spec
     audit-requires

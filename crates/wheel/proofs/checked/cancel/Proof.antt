@@ -10,27 +10,25 @@ use Rattle.wheel.proofs.checked.cancel.Tie as tie
 audit-requires : tie.Need-audit-requires
 audit-requires c κs = search rules
 
-same_length : tie.Need-same-length
+same_length : tie.Need-shape_of-w-then-not-audit
 same_length c = search rules
 
-returns : tie.Need-returns
+returns : tie.Need-returns-then-not-audit
 unfolding told_cancel
-returns c = refused-broken _ _ _ c.before.audit.ensures _ (not-true _ c.if1.true)
+returns c = refused-broken _ _ _ c.audit.ensures _ (c.if-not-audit.true)
 
 cancel-requires : tie.Need-cancel-requires
 cancel-requires c κs = search rules
 
-same-length-2 : tie.Need-same-length-2
+same-length-2 : tie.Need-shape_of-w
 same-length-2 c = search rules
 
-returns-2 : tie.Need-returns-2
+returns-2 : tie.Need-returns
 returns-2 c =
-    let done = c.before.before in
-    let audited = done.before.before in
-    passed-sound _ _ _ audited.before.audit.ensures _ _ _ _ (not-false _ audited.if1.false) done.cancel.ensures
+    passed-sound _ _ _ c.audit.ensures _ _ _ _ (c.if-not-audit.false) c.cancel.ensures
 
-pub cancel-spec : {M : Type 1} → statement M
-cancel-spec =
+pub cancel_spec : {M : Type 1} → statement M
+cancel_spec =
     tie.close
     (tie.spec
     audit-requires

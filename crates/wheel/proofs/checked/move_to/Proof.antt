@@ -10,24 +10,22 @@ use Rattle.wheel.proofs.checked.move_to.Tie as tie
 audit-requires : tie.Need-audit-requires
 audit-requires c κs = search rules
 
-same_length : tie.Need-same-length
+same_length : tie.Need-shape_of-w-then-not-audit
 same_length c = search rules
 
-returns : tie.Need-returns
+returns : tie.Need-returns-then-not-audit
 unfolding told_move
-returns c = refused-broken _ _ _ c.before.audit.ensures _ (not-true _ c.if1.true)
+returns c = refused-broken _ _ _ c.audit.ensures _ (c.if-not-audit.true)
 
-move-to-requires : tie.Need-move-to-requires
+move-to-requires : tie.Need-move_to-requires
 move-to-requires c κs = search rules
 
-same-length-2 : tie.Need-same-length-2
+same-length-2 : tie.Need-shape_of-w
 same-length-2 c = search rules
 
-returns-2 : tie.Need-returns-2
+returns-2 : tie.Need-returns
 returns-2 c =
-    let done = c.before.before in
-    let audited = done.before.before in
-    passed-sound _ _ _ audited.before.audit.ensures _ _ _ _ (not-false _ audited.if1.false) done.move-to.ensures
+    passed-sound _ _ _ c.audit.ensures _ _ _ _ (c.if-not-audit.false) c.move_to.ensures
 
 pub move_to_spec : {M : Type 1} → statement M
 move_to_spec =

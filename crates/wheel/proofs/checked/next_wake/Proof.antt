@@ -10,20 +10,19 @@ use Rattle.wheel.proofs.checked.next_wake.Tie as tie
 audit-requires : tie.Need-audit-requires
 audit-requires c κs = search rules
 
-returns : tie.Need-returns
+returns : tie.Need-returns-then-not-audit
 unfolding told_wake
-returns c = refused-broken _ _ _ c.before.audit.ensures _ (not-true _ c.if1.true)
+returns c = refused-broken _ _ _ c.audit.ensures _ (c.if-not-audit.true)
 
-next-wake-requires : tie.Need-next-wake-requires
+next-wake-requires : tie.Need-next_wake-requires
 next-wake-requires c κs = search rules
 
-returns-2 : tie.Need-returns-2
+returns-2 : tie.Need-returns
 returns-2 c =
-    let audited = c.before in
-    passed-sound _ _ _ audited.before.audit.ensures _ _ _ _ (not-false _ audited.if1.false) (c.next-wake.ensures _)
+    passed-sound _ _ _ c.audit.ensures _ _ _ _ (c.if-not-audit.false) (c.next_wake.ensures _)
 
-pub next-wake-spec : {M : Type 1} → statement M
-next-wake-spec =
+pub next_wake_spec : {M : Type 1} → statement M
+next_wake_spec =
     tie.close
     (tie.spec
     audit-requires

@@ -6,27 +6,26 @@ use borrow.Author.Rules.{rules}
 use Rattle.wheel.proofs.in_place.next_wake.Statement.{statement}
 use Rattle.wheel.proofs.in_place.next_wake.Tie as tie
 
-returns : tie.Need-returns
+returns : tie.Need-returns-then-due-ne4096
 unfolding told_wake
-returns c = λ w first last. wakes-now _ _ c.if1.true
+returns c = λ w first last. wakes-now _ _ c.if-due-ne4096.true
 
-first-marked-requires : tie.Need-first-marked-requires
+first-marked-requires : tie.Need-first_marked-i-requires
 first-marked-requires c κs = search rules
 
-returns-2 : tie.Need-returns-2
+returns-2 : tie.Need-returns-then-i-eq384
 unfolding told_wake
 returns-2 c =
-    λ w first last. wakes-never _ _ c.before.before.if1.false _ c.before.first-marked.ensures c.if2.true
+    λ w first last. wakes-never _ _ c.if-due-ne4096.false _ c.first_marked-i.ensures c.if-i-eq384.true
 
-wake-tick-requires : tie.Need-wake-tick-requires
+wake-tick-requires : tie.Need-wake_tick-requires
 wake-tick-requires c κs = search rules
 
-returns-3 : tie.Need-returns-3
+returns-3 : tie.Need-returns
 unfolding told_wake
 returns-3 c =
-    let slot = c.before in
     λ w first last.
-    wakes-later _ _ slot.before.before.if1.false _ slot.before.first-marked.ensures _ slot.if2.false c.wake-tick.ensures
+    wakes-later _ _ c.if-due-ne4096.false _ c.first_marked-i.ensures _ c.if-i-eq384.false c.wake_tick.ensures
 
-pub next-wake-spec : {M : Type 1} → statement M
-next-wake-spec = tie.close (tie.spec returns first-marked-requires returns-2 wake-tick-requires returns-3)
+pub next_wake_spec : {M : Type 1} → statement M
+next_wake_spec = tie.close (tie.spec returns first-marked-requires returns-2 wake-tick-requires returns-3)

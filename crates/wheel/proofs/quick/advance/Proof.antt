@@ -5,30 +5,30 @@ use borrow.Author.Rules.{rules}
 use Rattle.wheel.proofs.quick.advance.Statement.{statement}
 use Rattle.wheel.proofs.quick.advance.Tie as tie
 
-slice-aggregate-advance : tie.Need-slice-aggregate-advance
+slice-aggregate-advance : tie.Need-slice_bounds-advance-end
 slice-aggregate-advance c = search rules
 
-slice-aggregate-advance-2 : tie.Need-slice-aggregate-advance-2
+slice-aggregate-advance-2 : tie.Need-slice_bounds-advance-end-2
 slice-aggregate-advance-2 c = search rules
 
-slice-aggregate-advance-3 : tie.Need-slice-aggregate-advance-3
+slice-aggregate-advance-3 : tie.Need-slice_bounds-advance-end-3
 slice-aggregate-advance-3 c = search rules
 
-advance-requires : tie.Need-advance-requires
+advance-requires : tie.Need-advance-turn-requires
 advance-requires c κs = search rules
 
-same_length : tie.Need-same-length
+same_length : tie.Need-shape_of-w
 same_length c = search rules
 
-same-length-2 : tie.Need-same-length-2
+same-length-2 : tie.Need-shape_of-out
 same-length-2 c = search rules
 
 returns : tie.Need-returns
 unfolding head_lists
-returns c = c.before.before.before.before.before.before.before.before.advance.ensures
+returns c = c.advance-turn.ensures
 
-pub advance-spec : {M : Type 1} → statement M
-advance-spec =
+pub advance_spec : {M : Type 1} → statement M
+advance_spec =
     tie.close
     (tie.spec
     slice-aggregate-advance

@@ -5,27 +5,27 @@ use borrow.Author.Rules.{rules}
 use Rattle.wheel.proofs.quick.arm.Statement.{statement}
 use Rattle.wheel.proofs.quick.arm.Tie as tie
 
-slice-aggregate-arm : tie.Need-slice-aggregate-arm
+slice-aggregate-arm : tie.Need-slice_bounds-arm-end
 slice-aggregate-arm c = search rules
 
-slice-aggregate-arm-2 : tie.Need-slice-aggregate-arm-2
+slice-aggregate-arm-2 : tie.Need-slice_bounds-arm-end-2
 slice-aggregate-arm-2 c = search rules
 
-slice-aggregate-arm-3 : tie.Need-slice-aggregate-arm-3
+slice-aggregate-arm-3 : tie.Need-slice_bounds-arm-end-3
 slice-aggregate-arm-3 c = search rules
 
-arm-requires : tie.Need-arm-requires
+arm-requires : tie.Need-arm-turn-requires
 arm-requires c κs = search rules
 
-same_length : tie.Need-same-length
+same_length : tie.Need-shape_of-w
 same_length c = search rules
 
 returns : tie.Need-returns
 unfolding head_lists
-returns c = c.before.before.before.before.before.before.arm.ensures
+returns c = c.arm-turn.ensures
 
-pub arm-spec : {M : Type 1} → statement M
-arm-spec =
+pub arm_spec : {M : Type 1} → statement M
+arm_spec =
     tie.close
     (tie.spec
     slice-aggregate-arm

@@ -5,18 +5,18 @@ use borrow.Author.Rules.{rules}
 use Rattle.wheel.proofs.quick.next_wake.Statement.{statement}
 use Rattle.wheel.proofs.quick.next_wake.Tie as tie
 
-slice-aggregate-next-wake : tie.Need-slice-aggregate-next-wake
+slice-aggregate-next-wake : tie.Need-slice_bounds-next_wake-end
 slice-aggregate-next-wake c = search rules
 
-next-wake-requires : tie.Need-next-wake-requires
+next-wake-requires : tie.Need-next_wake-requires
 next-wake-requires c κs = search rules
 
 returns : tie.Need-returns
 unfolding head_lists
-returns c = λ w. c.next-wake.ensures w _ _
+returns c = λ w. c.next_wake.ensures w _ _
 
-pub next-wake-spec : {M : Type 1} → statement M
-next-wake-spec =
+pub next_wake_spec : {M : Type 1} → statement M
+next_wake_spec =
     tie.close
     (tie.spec
     slice-aggregate-next-wake

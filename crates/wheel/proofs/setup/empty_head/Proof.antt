@@ -9,5 +9,5 @@ returns : tie.Need-returns
 unfolding empty_head
 returns c = refl
 
-pub empty-head-spec : {M : Type 1} → statement M
-empty-head-spec = tie.close (tie.spec returns)
+pub empty_head_spec : {M : Type 1} → statement M
+empty_head_spec = tie.close (tie.spec returns)
