@@ -12,17 +12,18 @@ ghost use Rattle.queue_script.specs.Runs.{Place, Stands, Reached, Answered};
 
 use crate::calls::obey;
 use crate::serving::{Session, Turn, begin, goes_on};
-use libc::{STDIN_FILENO, STDOUT_FILENO};
 use script::chunks::carry;
+use script::console::{large_buffer, read_some, write_all};
 use script::scan::next;
+use std::io::{Stdin, Stdout};
 
 // Writes out what stands before `at` where the next answer may not fit behind it: no answer is longer than 256 bytes.
-fn flushed(out: &[u8], at: usize) -> usize
+fn flushed(output: Stdout, out: &[u8], at: usize) -> usize
     requires { at ≤ length out.now }
     ensures { result ≤ length out.now }
 {
     if out.len() - at < 256 {
-        io::write_all(STDOUT_FILENO, &out[..at]);
+        write_all(output, &out[..at]);
         return 0;
     }
     at
@@ -54,7 +55,7 @@ fn answer(out: &mut [u8], at: usize, w: &mut [u64], session: Session, line: &[u8
 }
 
 // Answers the whole lines of a chunk, and says where the rest begins and where the run stands.
-fn answer_lines(s: &[u8], out: &mut [u8], w: &mut [u64], session: Session) -> Turn
+fn answer_lines(output: Stdout, s: &[u8], out: &mut [u8], w: &mut [u64], session: Session) -> Turn
     requires session_in_bounds { words_of session ≤ length w.old }
     requires reached_2 { Reached session w.old }
     ensures within { Within result (length s.now) (length w.old) }
@@ -65,14 +66,14 @@ fn answer_lines(s: &[u8], out: &mut [u8], w: &mut [u64], session: Session) -> Tu
     let mut end = next(s, 0, 10);
     let mut o = 0;
     while end < s.len() {
-        o = flushed(out, o);
+        o = flushed(output, out, o);
         let turn = answer(out, o, w, run, &s[at..end]);
         o = turn.end;
         run = turn.session;
         at = end + 1;
         end = next(s, at, 10);
     }
-    io::write_all(STDOUT_FILENO, &out[..o]);
+    write_all(output, &out[..o]);
     Turn {
         end: at,
         session: run,
@@ -88,7 +89,7 @@ struct Step {
 }
 
 // Reads once behind the bytes held, answers the whole lines, and carries the rest to the front.
-fn advance(buf: &mut [u8], held: usize, out: &mut [u8], w: &mut [u64], session: Session) -> Step
+fn advance(input: Stdin, output: Stdout, buf: &mut [u8], held: usize, out: &mut [u8], w: &mut [u64], session: Session) -> Step
     requires held_in_bounds { held ≤ length buf.old }
     requires session_in_bounds { words_of session ≤ length w.old }
     requires reached_2 { Reached session w.old }
@@ -96,7 +97,7 @@ fn advance(buf: &mut [u8], held: usize, out: &mut [u8], w: &mut [u64], session: 
     ensures reached { Reached result.session w.new }
 {
     let room = &mut buf[held..];
-    let got = io::count(libc::read(STDIN_FILENO, room), room);
+    let got = read_some(input, room);
     if got == 0 {
         return Step {
             held,
@@ -105,7 +106,7 @@ fn advance(buf: &mut [u8], held: usize, out: &mut [u8], w: &mut [u64], session: 
         };
     }
     let n = held + got;
-    let turn = answer_lines(&buf[..n], out, w, session);
+    let turn = answer_lines(output, &buf[..n], out, w, session);
     let after = turn.session;
     Step {
         held: carry(buf, turn.end, n),
@@ -115,7 +116,7 @@ fn advance(buf: &mut [u8], held: usize, out: &mut [u8], w: &mut [u64], session: 
 }
 
 // A proved loop has to end, so it counts its turns down, from a number that no run uses up.
-fn read_all(buf: &mut [u8], out: &mut [u8], w: &mut [u64]) -> Step
+fn read_all(input: Stdin, output: Stdout, buf: &mut [u8], out: &mut [u8], w: &mut [u64]) -> Step
     requires { 4096 ≤ length w.old }
     ensures within { (result.held ≤ length buf.old) × (words_of result.session ≤ length w.old) }
     ensures reached { Reached result.session w.new }
@@ -129,7 +130,7 @@ fn read_all(buf: &mut [u8], out: &mut [u8], w: &mut [u64]) -> Step
     while turns > 0 {
         let held = step.held;
         let session = step.session;
-        step = advance(buf, held, out, w, session);
+        step = advance(input, output, buf, held, out, w, session);
         if !step.more {
             return step;
         }
@@ -139,22 +140,22 @@ fn read_all(buf: &mut [u8], out: &mut [u8], w: &mut [u64]) -> Step
 }
 
 // The last line may lack its line feed: what is held at the end of the input is a line.
-fn run(buf: &mut [u8], out: &mut [u8], w: &mut [u64])
+fn run(input: Stdin, output: Stdout, buf: &mut [u8], out: &mut [u8], w: &mut [u64])
     requires { 4096 ≤ length w.old }
 {
-    let step = read_all(buf, out, w);
+    let step = read_all(input, output, buf, out, w);
     let held = step.held;
     if held > 0 {
         let session = step.session;
         let turn = answer(out, 0, w, session, &buf[..held]);
         let end = turn.end;
-        io::write_all(STDOUT_FILENO, &out[..end]);
+        write_all(output, &out[..end]);
     }
 }
 
-fn main() {
-    let mut buf = io::large_buffer();
-    let mut out = io::large_buffer();
+fn main(rt: HostRuntime) {
+    let mut buf = large_buffer();
+    let mut out = large_buffer();
     let mut w = [0u64; 4096];
-    run(&mut buf, &mut out, &mut w);
+    run(rt.stdin(), rt.stdout(), &mut buf, &mut out, &mut w);
 }

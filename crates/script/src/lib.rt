@@ -2,6 +2,7 @@
 #![tactic(auto)]
 
 pub mod chunks;
+pub mod console;
 pub mod reading;
 pub mod scan;
 pub mod writing;

@@ -13,17 +13,18 @@ ghost use Rattle.wheel_script.specs.Runs.{Place, Before, Blank, Stands, Reached,
 
 use crate::calls::obey;
 use crate::serving::{Session, Turn, begin, goes_on};
-use libc::{STDIN_FILENO, STDOUT_FILENO};
 use script::chunks::carry;
+use script::console::{large_buffer, read_some, write_all};
 use script::scan::next;
+use std::io::{Stdin, Stdout};
 
 // Writes out what stands before `at` where the next answer may not fit behind it: the longest answers an advance, by 64 lines of at most 90 bytes and one of at most 60.
-fn flushed(out: &[u8], at: usize) -> usize
+fn flushed(output: Stdout, out: &[u8], at: usize) -> usize
     requires { at ≤ length out.now }
     ensures { result ≤ length out.now }
 {
     if out.len() - at < 8192 {
-        io::write_all(STDOUT_FILENO, &out[..at]);
+        write_all(output, &out[..at]);
         return 0;
     }
     at
@@ -65,6 +66,7 @@ fn answer(
 
 // Answers the whole lines of a chunk, and says where the rest begins and where the run stands.
 fn answer_lines(
+    output: Stdout,
     s: &[u8],
     out: &mut [u8],
     w: &mut [u64],
@@ -83,14 +85,14 @@ fn answer_lines(
     let mut end = next(s, 0, 10);
     let mut o = 0;
     while end < s.len() {
-        o = flushed(out, o);
+        o = flushed(output, out, o);
         let turn = answer(out, o, w, first, last, marks, run, &s[at..end]);
         o = turn.end;
         run = turn.session;
         at = end + 1;
         end = next(s, at, 10);
     }
-    io::write_all(STDOUT_FILENO, &out[..o]);
+    write_all(output, &out[..o]);
     Turn {
         end: at,
         session: run,
@@ -107,6 +109,8 @@ struct Step {
 
 // Reads once behind the bytes held, answers the whole lines, and carries the rest to the front.
 fn advance(
+    input: Stdin,
+    output: Stdout,
     buf: &mut [u8],
     held: usize,
     out: &mut [u8],
@@ -123,7 +127,7 @@ fn advance(
     ensures reached { Reached result.session w.new first.new last.new marks.new }
 {
     let room = &mut buf[held..];
-    let got = io::count(libc::read(STDIN_FILENO, room), room);
+    let got = read_some(input, room);
     if got == 0 {
         return Step {
             held,
@@ -132,7 +136,7 @@ fn advance(
         };
     }
     let n = held + got;
-    let turn = answer_lines(&buf[..n], out, w, first, last, marks, session);
+    let turn = answer_lines(output, &buf[..n], out, w, first, last, marks, session);
     let after = turn.session;
     Step {
         held: carry(buf, turn.end, n),
@@ -143,6 +147,8 @@ fn advance(
 
 // A proved loop has to end, so it counts its turns down, from a number that no run uses up.
 fn read_all(
+    input: Stdin,
+    output: Stdout,
     buf: &mut [u8],
     out: &mut [u8],
     w: &mut [u64],
@@ -163,7 +169,7 @@ fn read_all(
     while turns > 0 {
         let held = step.held;
         let session = step.session;
-        step = advance(buf, held, out, w, first, last, marks, session);
+        step = advance(input, output, buf, held, out, w, first, last, marks, session);
         if !step.more {
             return step;
         }
@@ -174,6 +180,8 @@ fn read_all(
 
 // The last line may lack its line feed: what is held at the end of the input is a line.
 fn run(
+    input: Stdin,
+    output: Stdout,
     buf: &mut [u8],
     out: &mut [u8],
     w: &mut [u64],
@@ -183,25 +191,27 @@ fn run(
 )
     requires { Blank w.old first.old last.old marks.old Before }
 {
-    let step = read_all(buf, out, w, first, last, marks);
+    let step = read_all(input, output, buf, out, w, first, last, marks);
     let held = step.held;
     if held > 0 {
         let session = step.session;
         let turn = answer(out, 0, w, first, last, marks, session, &buf[..held]);
         let end = turn.end;
-        io::write_all(STDOUT_FILENO, &out[..end]);
+        write_all(output, &out[..end]);
     }
 }
 
 // The lent arrays are those of an empty wheel.
-fn main() {
-    let mut buf = io::large_buffer();
-    let mut out = io::large_buffer();
+fn main(rt: HostRuntime) {
+    let mut buf = large_buffer();
+    let mut out = large_buffer();
     let mut w = [0u64; 4096];
     let mut first = [4096u16; 384];
     let mut last = [4096u16; 384];
     let mut marks = [0u64; 6];
     run(
+        rt.stdin(),
+        rt.stdout(),
         &mut buf, &mut out, &mut w, &mut first, &mut last, &mut marks,
     );
 }

@@ -8,41 +8,41 @@ use borrow.Author.Rules.{rules}
 use Rattle.queue_doors.proofs.run_all.Statement.{statement}
 use Rattle.queue_doors.proofs.run_all.Tie as tie
 
-abbrev invariant-loop : tie.invariant-loop
+abbrev invariant-loop : tie.invariant-loop-i
 invariant-loop w₀ trace handles₀ n r₀ i₀ w handles r i = (i ≤ n) × (length w ≡ length w₀) × (length handles ≡ length handles₀)
 
-abbrev decreases-loop : tie.decreases-loop
+abbrev decreases-loop : tie.decreases-loop-i
 decreases-loop w₀ trace handles₀ n r₀ i₀ w handles r i = n - i
 
-loop-holds : tie.Need-loop-init invariant-loop decreases-loop
+loop-holds : tie.Need-loop-i-init invariant-loop decreases-loop
 loop-holds c = (omega arith, refl, refl)
 
-operation-at-requires : tie.Need-operation-at-requires invariant-loop decreases-loop
+operation-at-requires : tie.Need-operation_at-requires invariant-loop decreases-loop
 operation-at-requires c κs = search rules
 
-run-one-requires : tie.Need-run-one-requires invariant-loop decreases-loop
+run-one-requires : tie.Need-run_one-r-requires invariant-loop decreases-loop
 run-one-requires c κs = search rules
 
-add-i : tie.Need-overflow-add-i invariant-loop decreases-loop
+add-i : tie.Need-overflow_add-i invariant-loop decreases-loop
 add-i c = omega arith
 
-loop-less : tie.Need-loop-smaller invariant-loop decreases-loop
+loop-less : tie.Need-loop-i-smaller invariant-loop decreases-loop
 loop-less c = omega arith
 
-loop-again : tie.Need-loop-preserved invariant-loop decreases-loop
+loop-again : tie.Need-loop-i-preserved invariant-loop decreases-loop
 loop-again c = (omega arith, omega arith, omega arith)
 
-same_length : tie.Need-same-length invariant-loop decreases-loop
+same_length : tie.Need-shape_of-w invariant-loop decreases-loop
 same_length c = search rules
 
-same-length-2 : tie.Need-same-length-2 invariant-loop decreases-loop
+same-length-2 : tie.Need-shape_of-handles invariant-loop decreases-loop
 same-length-2 c = search rules
 
 returns : tie.Need-returns invariant-loop decreases-loop
 returns c = search rules
 
-pub run-all-spec : {M : Type 1} → statement M
-run-all-spec =
+pub run_all_spec : {M : Type 1} → statement M
+run_all_spec =
     tie.close
     (tie.spec
     invariant-loop

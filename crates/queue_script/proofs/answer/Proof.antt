@@ -9,60 +9,59 @@ use borrow.Author.Rules.{rules}
 use Rattle.queue_script.proofs.answer.Statement.{statement}
 use Rattle.queue_script.proofs.answer.Tie as tie
 
-enum_told : tie.Need-enum-told
+enum_told : tie.Need-enum_told-1
 enum_told c = search rules
 
 begin-requires : tie.Need-begin-requires
 begin-requires c κs = search rules
 
-enum-known-session : tie.Need-enum-known-session
+enum-known-session : tie.Need-enum_known-session
 enum-known-session c = search rules
 
-slice-relend-prefix-obey : tie.Need-slice-relend-prefix-obey
+slice-relend-prefix-obey : tie.Need-slice_bounds-obey-end
 unfolding words_of
-slice-relend-prefix-obey c = omega (arith, ap words_of c.before.before.session.given.1, c.before.before.before.before.before.before.before.requires)
+slice-relend-prefix-obey c = omega (arith, ap words_of c.in-Open.is, c.requires)
 
-slice-aggregate-obey : tie.Need-slice-aggregate-obey
+slice-aggregate-obey : tie.Need-slice_bounds-obey-end-in-Open
 slice-aggregate-obey c = sym (length-take-le _ _ (slice-relend-prefix-obey c.before))
 
-obey-requires : tie.Need-obey-requires
+obey-requires : tie.Need-obey-said-requires
 obey-requires c κs = search rules
 
-enum-told-2 : tie.Need-enum-told-2
+enum-told-2 : tie.Need-enum_told-in-Over
 enum-told-2 c = search rules
 
-same_length : tie.Need-same-length
+same_length : tie.Need-shape_of-out-in-Fresh
 same_length c = search rules
 
-same-length-2 : tie.Need-same-length-2
+same-length-2 : tie.Need-shape_of-w-in-Fresh
 same-length-2 c = search rules
 
-returns : tie.Need-returns
-returns c = (search rules, λ p s. answered-first _ _ _ _ _ p _ _ _ _ c.before.before.before.before.before.before.before.enum_told.given.1 (λ long. c.before.before.before.before.begin.ensures.1 long) s)
+returns : tie.Need-returns-in-Fresh
+returns c = (search rules, λ p s. answered-first _ _ _ _ _ p _ _ _ _ c.in-Fresh.is (λ long. c.begin.ensures.1 long) s)
 
-same-length-3 : tie.Need-same-length-3
+same-length-3 : tie.Need-shape_of-out-in-Open
 same-length-3 c = search rules
 
-same-length-4 : tie.Need-same-length-4
+same-length-4 : tie.Need-shape_of-w-in-Open
 same-length-4 c = search rules
 
-returns-2 : tie.Need-returns-2
+returns-2 : tie.Need-returns-in-Open
 unfolding words_of
 returns-2 c =
-    let obeyed = c.before.before.before.before.before in
     let part = c.before.before.before.before.before.before in (
-      record { place = obeyed-within _ _ _ _ _ _ _ _ _ obeyed.obey.ensures; queue = slice-relend-prefix-obey part.before },
+      record { place = obeyed-within _ _ _ _ _ _ _ _ _ c.obey-said.ensures; queue = slice-relend-prefix-obey part.before },
       λ p s.
-          answered-next _ _ _ _ _ p _ _ _ _ _ _ c.before.before.before.before.before.before.before.before.before.session.given.1 (obeyed.obey.auto.1.1.0 ∙ sym (slice-aggregate-obey part))
-          obeyed.obey.ensures s,
+          answered-next _ _ _ _ _ p _ _ _ _ _ _ c.in-Open.is (c.obey-said.auto.w ∙ sym (slice-aggregate-obey part))
+          c.obey-said.ensures s,
     )
 
-returns-3 : tie.Need-returns-3
+returns-3 : tie.Need-returns-in-Over
 unfolding words_of
-returns-3 c = (search rules, λ p s. answered-over _ _ _ _ _ p c.enum-told2.given.1 (search rules) s)
+returns-3 c = (search rules, λ p s. answered-over _ _ _ _ _ p c.in-Over.is (search rules) s)
 
-pub answer-spec : {M : Type 1} → statement M
-answer-spec =
+pub answer_spec : {M : Type 1} → statement M
+answer_spec =
     tie.close
     (tie.spec
     enum_told

@@ -5,21 +5,21 @@ use borrow.Author.Rules.{rules}
 use Rattle.wheel_script.proofs.flushed.Statement.{statement}
 use Rattle.wheel_script.proofs.flushed.Tie as tie
 
-sub-if1 : tie.Need-overflow-sub-if1
+sub-if1 : tie.Need-overflow_sub-out
 sub-if1 c = search rules
 
-slice-aggregate-write-all : tie.Need-slice-aggregate-write-all
+slice-aggregate-write-all : tie.Need-slice_bounds-write_all-end
 slice-aggregate-write-all c = sym (length-take-le _ _ (search rules))
 
-write-all-requires : tie.Need-write-all-requires
+write-all-requires : tie.Need-write_all-requires
 write-all-requires c κs = search rules
 
-returns : tie.Need-returns
+returns : tie.Need-returns-then-out-at-lt8192
 returns c = search rules
 
-returns-2 : tie.Need-returns-2
+returns-2 : tie.Need-returns
 returns-2 c = search rules
 
-pub flushed-spec : {M : Type 1} → statement M
-flushed-spec =
+pub flushed_spec : {M : Type 1} → statement M
+flushed_spec =
     tie.close (tie.spec sub-if1 slice-aggregate-write-all write-all-requires returns returns-2)

@@ -4,17 +4,17 @@ use Rattle.queue_script.specs.Commands.{of_none}
 use Rattle.queue_script.proofs.commands.of_none.Statement.{statement}
 use Rattle.queue_script.proofs.commands.of_none.Tie as tie
 
-returns : tie.Need-returns
+returns : tie.Need-returns-then-word-eq-FIRST
 unfolding of_none
-returns c = rw (eq-eqb _ _ c.if1.true)
+returns c = rw (eq-eqb _ _ c.if-word-eq-FIRST.true)
 
-returns-2 : tie.Need-returns-2
+returns-2 : tie.Need-returns-then-word-eq-TAKE
 unfolding of_none
-returns-2 c = rw (ne_eqb _ _ c.before.if1.false, eq-eqb _ _ c.if2.true)
+returns-2 c = rw (ne_eqb _ _ c.if-word-eq-FIRST.false, eq-eqb _ _ c.if-word-eq-TAKE.true)
 
-returns-3 : tie.Need-returns-3
+returns-3 : tie.Need-returns
 unfolding of_none
-returns-3 c = rw (ne_eqb _ _ c.before.if1.false, ne_eqb _ _ c.if2.false)
+returns-3 c = rw (ne_eqb _ _ c.if-word-eq-FIRST.false, ne_eqb _ _ c.if-word-eq-TAKE.false)
 
-pub of-none-spec : {M : Type 1} → statement M
-of-none-spec = tie.close (tie.spec returns returns-2 returns-3)
+pub of_none_spec : {M : Type 1} → statement M
+of_none_spec = tie.close (tie.spec returns returns-2 returns-3)

@@ -4,13 +4,13 @@ use Rattle.queue_script.specs.Commands.{of_three}
 use Rattle.queue_script.proofs.commands.of_three.Statement.{statement}
 use Rattle.queue_script.proofs.commands.of_three.Tie as tie
 
-returns : tie.Need-returns
+returns : tie.Need-returns-then-word-eq-REKEY
 unfolding of_three
-returns c = rw (eq-eqb _ _ c.if1.true)
+returns c = rw (eq-eqb _ _ c.if-word-eq-REKEY.true)
 
-returns-2 : tie.Need-returns-2
+returns-2 : tie.Need-returns
 unfolding of_three
-returns-2 c = rw (ne_eqb _ _ c.if1.false)
+returns-2 c = rw (ne_eqb _ _ c.if-word-eq-REKEY.false)
 
-pub of-three-spec : {M : Type 1} → statement M
-of-three-spec = tie.close (tie.spec returns returns-2)
+pub of_three_spec : {M : Type 1} → statement M
+of_three_spec = tie.close (tie.spec returns returns-2)

@@ -4,17 +4,17 @@ use Rattle.queue_script.specs.Commands.{queue_of}
 use Rattle.queue_script.proofs.commands.queue_of.Statement.{statement}
 use Rattle.queue_script.proofs.commands.queue_of.Tie as tie
 
-returns : tie.Need-returns
+returns : tie.Need-returns-then-n-eq0
 unfolding queue_of
-returns c = rw (eq-eqb _ _ c.if1.true)
+returns c = rw (eq-eqb _ _ c.if-n-eq0.true)
 
-returns-2 : tie.Need-returns-2
+returns-2 : tie.Need-returns-then-n-gt512
 unfolding queue_of
-returns-2 c = rw (ne_eqb _ _ c.before.if1.false, lt-leb _ _ c.if2.true)
+returns-2 c = rw (ne_eqb _ _ c.if-n-eq0.false, lt-leb _ _ c.if-n-gt512.true)
 
-returns-3 : tie.Need-returns-3
+returns-3 : tie.Need-returns
 unfolding queue_of
-returns-3 c = rw (ne_eqb _ _ c.before.if1.false, le-leb _ _ c.if2.false)
+returns-3 c = rw (ne_eqb _ _ c.if-n-eq0.false, le-leb _ _ c.if-n-gt512.false)
 
-pub queue-of-spec : {M : Type 1} → statement M
-queue-of-spec = tie.close (tie.spec returns returns-2 returns-3)
+pub queue_of_spec : {M : Type 1} → statement M
+queue_of_spec = tie.close (tie.spec returns returns-2 returns-3)

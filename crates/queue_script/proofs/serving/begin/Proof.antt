@@ -8,42 +8,42 @@ use borrow.Author.Rules.{rules}
 use Rattle.queue_script.proofs.serving.begin.Statement.{statement}
 use Rattle.queue_script.proofs.serving.begin.Tie as tie
 
-read-command-requires : tie.Need-read-command-requires
+read-command-requires : tie.Need-read_command-requires
 read-command-requires c κs = search rules
 
-as-first-requires : tie.Need-as-first-requires
+as-first-requires : tie.Need-as_first-requires
 as-first-requires c κs = search rules
 
-enum-known-n : tie.Need-enum-known-n
+enum-known-n : tie.Need-enum_known-n
 enum-known-n c = search rules
 
 open-requires : tie.Need-open-requires
-open-requires c κs = size-bound _ _ _ (sym (ap opening_of c.before.before.before.before.before.before.read-command.ensures) ∙ sym c.before.before.before.before.before.as_first.ensures ∙ c.before.before.before.n.given.1)
+open-requires c κs = size-bound _ _ _ (sym (ap opening_of c.read_command.ensures) ∙ sym c.as_first.ensures ∙ c.in-Queue.is)
 
-enum_told : tie.Need-enum-told
+enum_told : tie.Need-enum_told-1
 enum_told c = search rules
 
-bad-line-requires : tie.Need-bad-line-requires
+bad-line-requires : tie.Need-bad_line-requires
 bad-line-requires c κs = search rules
 
-same_length : tie.Need-same-length
+same_length : tie.Need-shape_of-out-in-Queue
 same_length c = search rules
 
-same-length-2 : tie.Need-same-length-2
+same-length-2 : tie.Need-shape_of-w
 same-length-2 c = search rules
 
-returns : tie.Need-returns
-returns c = (search rules, λ long. rw (sym (ap opening_of c.before.before.before.before.before.before.before.before.before.before.before.read-command.ensures) ∙ sym c.before.before.before.before.before.before.before.before.before.before.as_first.ensures ∙ c.before.before.before.before.before.before.before.before.n.given.1) (c.before.before.before.before.«open».ensures.1 long))
+returns : tie.Need-returns-in-Queue
+returns c = (search rules, λ long. rw (sym (ap opening_of c.read_command.ensures) ∙ sym c.as_first.ensures ∙ c.in-Queue.is) (c.before.before.before.before.«open».ensures.1 long))
 
-same-length-3 : tie.Need-same-length-3
+same-length-3 : tie.Need-shape_of-out-in-Wrong
 same-length-3 c = search rules
 
-returns-2 : tie.Need-returns-2
+returns-2 : tie.Need-returns-in-Wrong
 unfolding words_of
-returns-2 c = (search rules, λ long. rw (sym (ap opening_of c.before.before.before.before.before.before.before.read-command.ensures) ∙ sym c.before.before.before.before.before.before.as_first.ensures ∙ c.before.before.before.before.enum_told.given.1) (begun-wrong _ _ _ _ _ c.before.before.bad-line.ensures))
+returns-2 c = (search rules, λ long. rw (sym (ap opening_of c.read_command.ensures) ∙ sym c.as_first.ensures ∙ c.in-Wrong.is) (begun-wrong _ _ _ _ _ c.bad_line.ensures))
 
-pub begin-spec : {M : Type 1} → statement M
-begin-spec =
+pub begin_spec : {M : Type 1} → statement M
+begin_spec =
     tie.close
     (tie.spec
     read-command-requires

@@ -8,72 +8,70 @@ use borrow.Author.Rules.{rules}
 use Rattle.queue_script.proofs.serving.open.Statement.{statement}
 use Rattle.queue_script.proofs.serving.open.Tie as tie
 
-bad-line-requires : tie.Need-bad-line-requires
+bad-line-requires : tie.Need-bad_line-requires
 bad-line-requires c κs = search rules
 
-same_length : tie.Need-same-length
+same_length : tie.Need-shape_of-out-then-cells-w
 same_length c = search rules
 
-returns : tie.Need-returns
+returns : tie.Need-returns-then-cells-w
 unfolding words_of
-returns c = (search rules, λ long. absurd (omega (arith, long, c.before.before.before.before.if1.true, c.before.before.before.before.before.before.before.requires)))
+returns c = (search rules, λ long. absurd (omega (arith, long, c.if-cells-w.true, c.requires)))
 
-mul_words : tie.Need-overflow-mul-words
+mul_words : tie.Need-overflow_mul-words
 mul_words c = search rules
 
-slice-relend-prefix-set-up : tie.Need-slice-relend-prefix-set-up
+slice-relend-prefix-set-up : tie.Need-slice_bounds-set_up-end
 slice-relend-prefix-set-up c = search rules
 
-slice-aggregate-set-up : tie.Need-slice-aggregate-set-up
+slice-aggregate-set-up : tie.Need-slice_bounds-set_up-end-2
 slice-aggregate-set-up c = sym (length-take-le _ _ (slice-relend-prefix-set-up c.before))
 
-set-up-requires : tie.Need-set-up-requires
+set-up-requires : tie.Need-set_up-requires
 set-up-requires c κs = search rules
 
-enum-known-i : tie.Need-enum-known-i
+enum-known-i : tie.Need-enum_known-i
 enum-known-i c = search rules
 
 refused-requires : tie.Need-refused-requires
 refused-requires c κs = search rules
 
-enum-known-h : tie.Need-enum-known-h
+enum-known-h : tie.Need-enum_known-h
 enum-known-h c = search rules
 
 ready-requires : tie.Need-ready-requires
 ready-requires c κs = search rules
 
-same-length-2 : tie.Need-same-length-2
+same-length-2 : tie.Need-shape_of-out-in-Refused
 same-length-2 c = search rules
 
-same-length-3 : tie.Need-same-length-3
+same-length-3 : tie.Need-shape_of-w-in-Refused
 same-length-3 c = search rules
 
-returns-2 : tie.Need-returns-2
+returns-2 : tie.Need-returns-in-Refused
 unfolding words_of
 returns-2 c =
-    let start = c.before.before.before.before.before.before.before.before.before.before.before.before.before.before in
-    let set = c.before.before.before.before.before.before.before.before.before in (
+    let set = c.before.before.before.before.before.before.before.before in (
       search rules,
       λ long.
-          begun-refused _ _ _ (sym (slice-aggregate-set-up set.before)) start.requires.0 start.requires.1 _ _ _ _ _ _ _ set.set-up.ensures.0
-          c.before.before.before.before.before.i.given.1 c.before.before.refused.ensures,
+          begun-refused _ _ _ (sym (slice-aggregate-set-up set)) c.requires.0 c.requires.1 _ _ _ _ _ _ _ c.set_up.ensures.0
+          c.in-Refused.is c.refused.ensures,
     )
 
-same-length-4 : tie.Need-same-length-4
+same-length-4 : tie.Need-shape_of-out-in-Ready
 same-length-4 c = search rules
 
-same-length-5 : tie.Need-same-length-5
+same-length-5 : tie.Need-shape_of-w-in-Ready
 same-length-5 c = search rules
 
-returns-3 : tie.Need-returns-3
+returns-3 : tie.Need-returns-in-Ready
 unfolding words_of
 returns-3 c =
-    let start = c.before.before.before.before.before.before.before.before.before.before.before.before.before.before in
-    let set = c.before.before.before.before.before.before.before.before.before in (
+    let set = c.before.before.before.before.before.before.before.before in (
       search rules,
       λ long.
-          begun-ready _ _ _ (sym (slice-aggregate-set-up set.before)) start.requires.0 start.requires.1 _ _ _ _ _ _ _ _ set.set-up.ensures.0
-          c.before.before.before.before.before.h.given.1 set.set-up.ensures.1 c.before.before.ready.ensures,
+          begun-ready _ _ _ (sym (slice-aggregate-set-up set)) c.requires.0 c.requires.1 _ _ _ _ _ _ _ _ c.set_up.ensures.0
+          c.in-Ready.is c.set_up.ensures.1 c.ready.ensures,
     )
 
 pub open_spec : {M : Type 1} → statement M

@@ -5,34 +5,34 @@ use borrow.Author.Rules.{rules}
 use Rattle.wheel_script.proofs.answers.cancel.Statement.{statement}
 use Rattle.wheel_script.proofs.answers.cancel.Tie as tie
 
-enum-known-answer : tie.Need-enum-known-answer
+enum-known-answer : tie.Need-enum_known-answer
 enum-known-answer c = search rules
 
 refused-requires : tie.Need-refused-requires
 refused-requires c κs = search rules
 
-enum-known-answer-2 : tie.Need-enum-known-answer-2
+enum-known-answer-2 : tie.Need-enum_known-answer-in-Cancelled-1
 enum-known-answer-2 c = search rules
 
 load-requires : tie.Need-load-requires
 load-requires c κs = search rules
 
-same_length : tie.Need-same-length
+same_length : tie.Need-shape_of-out-in-Refused
 same_length c = search rules
 
-returns : tie.Need-returns
+returns : tie.Need-returns-in-Refused
 unfolding told_cancel answer_text
-returns c = rw c.before.before.before.before.before.answer.given.1 c.before.before.refused.ensures
+returns c = rw c.in-Refused.is c.refused.ensures
 
-same-length-2 : tie.Need-same-length-2
+same-length-2 : tie.Need-shape_of-out-in-Cancelled
 same-length-2 c = search rules
 
-returns-2 : tie.Need-returns-2
+returns-2 : tie.Need-returns-in-Cancelled
 unfolding told_cancel answer_text
-returns-2 c = rw c.before.before.before.before.before.answer2.given.1 c.before.before.load.ensures
+returns-2 c = rw c.in-Cancelled.is c.load.ensures
 
-pub cancel-spec : {M : Type 1} → statement M
-cancel-spec =
+pub cancel_spec : {M : Type 1} → statement M
+cancel_spec =
     tie.close
     (tie.spec
     enum-known-answer

@@ -6,137 +6,137 @@ use borrow.Author.Rules.{rules}
 use Rattle.wheel_script.proofs.calls.obey.Statement.{statement}
 use Rattle.wheel_script.proofs.calls.obey.Tie as tie
 
-read-command-requires : tie.Need-read-command-requires
+read-command-requires : tie.Need-read_command-requires
 read-command-requires c κs = search rules
 
-enum-known-e : tie.Need-enum-known-e
+enum-known-e : tie.Need-enum_known-e
 enum-known-e c = search rules
 
 arm-requires : tie.Need-arm-requires
 arm-requires c κs = search rules
 
-enum-known-c : tie.Need-enum-known-c
+enum-known-c : tie.Need-enum_known-c
 enum-known-c c = search rules
 
 cancel-requires : tie.Need-cancel-requires
 cancel-requires c κs = search rules
 
-enum-known-c-2 : tie.Need-enum-known-c-2
+enum-known-c-2 : tie.Need-enum_known-c-in-Move-1
 enum-known-c-2 c = search rules
 
-move-to-requires : tie.Need-move-to-requires
+move-to-requires : tie.Need-move_to-requires
 move-to-requires c κs = search rules
 
-enum-known-t : tie.Need-enum-known-t
+enum-known-t : tie.Need-enum_known-t
 enum-known-t c = search rules
 
 advance-requires : tie.Need-advance-requires
-advance-requires c κs = room_bound _ _ _ (sym c.before.before.before.before.before.before.before.before.read-command.ensures ∙ c.before.before.before.before.before.before.t.given.1)
+advance-requires c κs = room_bound _ _ _ (sym c.read_command.ensures ∙ c.in-Advance.is)
 
-enum_told : tie.Need-enum-told
+enum_told : tie.Need-enum_told-1
 enum_told c = search rules
 
 spurn-requires : tie.Need-spurn-requires
 spurn-requires c κs = search rules
 
-enum-told-2 : tie.Need-enum-told-2
+enum-told-2 : tie.Need-enum_told-in-Bad
 enum-told-2 c = search rules
 
-spurn-requires-2 : tie.Need-spurn-requires-2
+spurn-requires-2 : tie.Need-spurn-requires-in-Bad
 spurn-requires-2 c κs = search rules
 
-same_length : tie.Need-same-length
+same_length : tie.Need-shape_of-out-in-Arm
 same_length c = search rules
 
-same-length-2 : tie.Need-same-length-2
+same-length-2 : tie.Need-shape_of-w-in-Arm
 same-length-2 c = search rules
 
-same-length-3 : tie.Need-same-length-3
+same-length-3 : tie.Need-shape_of-first-in-Arm
 same-length-3 c = search rules
 
-same-length-4 : tie.Need-same-length-4
+same-length-4 : tie.Need-shape_of-last-in-Arm
 same-length-4 c = search rules
 
-same-length-5 : tie.Need-same-length-5
+same-length-5 : tie.Need-shape_of-marks-in-Arm
 same-length-5 c = search rules
 
-returns : tie.Need-returns
+returns : tie.Need-returns-in-Arm
 unfolding call_of Obeyed
-returns c = rw (sym c.before.before.before.before.before.before.before.before.before.before.before.before.before.before.before.before.before.before.before.read-command.ensures ∙ c.before.before.before.before.before.before.before.before.before.before.before.before.before.before.before.before.before.e.given.1) c.before.before.before.before.before.before.before.before.before.before.arm.ensures
+returns c = rw (sym c.read_command.ensures ∙ c.in-Arm.is) c.arm.ensures
 
-same-length-6 : tie.Need-same-length-6
+same-length-6 : tie.Need-shape_of-out-in-Cancel
 same-length-6 c = search rules
 
-same-length-7 : tie.Need-same-length-7
+same-length-7 : tie.Need-shape_of-w-in-Cancel
 same-length-7 c = search rules
 
-same-length-8 : tie.Need-same-length-8
+same-length-8 : tie.Need-shape_of-first-in-Cancel
 same-length-8 c = search rules
 
-same-length-9 : tie.Need-same-length-9
+same-length-9 : tie.Need-shape_of-last-in-Cancel
 same-length-9 c = search rules
 
-same-length-10 : tie.Need-same-length-10
+same-length-10 : tie.Need-shape_of-marks-in-Cancel
 same-length-10 c = search rules
 
-returns-2 : tie.Need-returns-2
+returns-2 : tie.Need-returns-in-Cancel
 unfolding call_of Obeyed
-returns-2 c = rw (sym c.before.before.before.before.before.before.before.before.before.before.before.before.before.before.before.before.before.before.before.read-command.ensures ∙ c.before.before.before.before.before.before.before.before.before.before.before.before.before.before.before.before.before.c.given.1) c.before.before.before.before.before.before.before.before.before.before.cancel.ensures
+returns-2 c = rw (sym c.read_command.ensures ∙ c.in-Cancel.is) c.cancel.ensures
 
-same-length-11 : tie.Need-same-length-11
+same-length-11 : tie.Need-shape_of-out-in-Move
 same-length-11 c = search rules
 
-same-length-12 : tie.Need-same-length-12
+same-length-12 : tie.Need-shape_of-w-in-Move
 same-length-12 c = search rules
 
-same-length-13 : tie.Need-same-length-13
+same-length-13 : tie.Need-shape_of-first-in-Move
 same-length-13 c = search rules
 
-same-length-14 : tie.Need-same-length-14
+same-length-14 : tie.Need-shape_of-last-in-Move
 same-length-14 c = search rules
 
-same-length-15 : tie.Need-same-length-15
+same-length-15 : tie.Need-shape_of-marks-in-Move
 same-length-15 c = search rules
 
-returns-3 : tie.Need-returns-3
+returns-3 : tie.Need-returns-in-Move
 unfolding call_of Obeyed
-returns-3 c = rw (sym c.before.before.before.before.before.before.before.before.before.before.before.before.before.before.before.before.before.before.before.read-command.ensures ∙ c.before.before.before.before.before.before.before.before.before.before.before.before.before.before.before.before.before.c2.given.1) c.before.before.before.before.before.before.before.before.before.before.move-to.ensures
+returns-3 c = rw (sym c.read_command.ensures ∙ c.in-Move.is) c.move_to.ensures
 
-same-length-16 : tie.Need-same-length-16
+same-length-16 : tie.Need-shape_of-out-in-Advance
 same-length-16 c = search rules
 
-same-length-17 : tie.Need-same-length-17
+same-length-17 : tie.Need-shape_of-w-in-Advance
 same-length-17 c = search rules
 
-same-length-18 : tie.Need-same-length-18
+same-length-18 : tie.Need-shape_of-first-in-Advance
 same-length-18 c = search rules
 
-same-length-19 : tie.Need-same-length-19
+same-length-19 : tie.Need-shape_of-last-in-Advance
 same-length-19 c = search rules
 
-same-length-20 : tie.Need-same-length-20
+same-length-20 : tie.Need-shape_of-marks-in-Advance
 same-length-20 c = search rules
 
-returns-4 : tie.Need-returns-4
+returns-4 : tie.Need-returns-in-Advance
 unfolding call_of Obeyed
-returns-4 c = rw (sym c.before.before.before.before.before.before.before.before.before.before.before.before.before.before.before.before.before.before.before.read-command.ensures ∙ c.before.before.before.before.before.before.before.before.before.before.before.before.before.before.before.before.before.t.given.1) c.before.before.before.before.before.before.before.before.before.before.advance.ensures
+returns-4 c = rw (sym c.read_command.ensures ∙ c.in-Advance.is) c.advance.ensures
 
-same-length-21 : tie.Need-same-length-21
+same-length-21 : tie.Need-shape_of-out-in-Wheel
 same-length-21 c = search rules
 
-returns-5 : tie.Need-returns-5
+returns-5 : tie.Need-returns-in-Wheel
 unfolding call_of Obeyed
-returns-5 c = rw (sym c.before.before.before.before.before.before.read-command.ensures ∙ c.before.before.before.before.enum_told.given.1) (c.before.before.spurn.ensures _ _ _ _)
+returns-5 c = rw (sym c.read_command.ensures ∙ c.in-Wheel.is) (c.spurn.ensures _ _ _ _)
 
-same-length-22 : tie.Need-same-length-22
+same-length-22 : tie.Need-shape_of-out-in-Bad
 same-length-22 c = search rules
 
-returns-6 : tie.Need-returns-6
+returns-6 : tie.Need-returns-in-Bad
 unfolding call_of Obeyed
-returns-6 c = rw (sym c.before.before.before.before.before.before.read-command.ensures ∙ c.before.before.before.before.enum-told2.given.1) (c.before.before.spurn2.ensures _ _ _ _)
+returns-6 c = rw (sym c.read_command.ensures ∙ c.in-Bad.is) (c.spurn-in-Bad.ensures _ _ _ _)
 
-pub obey-spec : {M : Type 1} → statement M
-obey-spec =
+pub obey_spec : {M : Type 1} → statement M
+obey_spec =
     tie.close
     (tie.spec
     read-command-requires

@@ -4,13 +4,13 @@ use Rattle.wheel_script.specs.Commands.{advance_of}
 use Rattle.wheel_script.proofs.commands.advance_of.Statement.{statement}
 use Rattle.wheel_script.proofs.commands.advance_of.Tie as tie
 
-returns : tie.Need-returns
+returns : tie.Need-returns-then-room-gt64
 unfolding advance_of
-returns c = rw (lt-leb _ _ c.if1.true)
+returns c = rw (lt-leb _ _ c.if-room-gt64.true)
 
-returns-2 : tie.Need-returns-2
+returns-2 : tie.Need-returns
 unfolding advance_of
-returns-2 c = rw (le-leb _ _ c.if1.false)
+returns-2 c = rw (le-leb _ _ c.if-room-gt64.false)
 
-pub advance-of-spec : {M : Type 1} → statement M
-advance-of-spec = tie.close (tie.spec returns returns-2)
+pub advance_of_spec : {M : Type 1} → statement M
+advance_of_spec = tie.close (tie.spec returns returns-2)

@@ -4,50 +4,50 @@ use borrow.Author.Rules.{rules}
 use Rattle.wheel_script.proofs.commands.as_first.Statement.{statement}
 use Rattle.wheel_script.proofs.commands.as_first.Tie as tie
 
-enum-known-command : tie.Need-enum-known-command
+enum-known-command : tie.Need-enum_known-command
 enum-known-command c = search rules
 
-enum_told : tie.Need-enum-told
+enum_told : tie.Need-enum_told-1
 enum_told c = search rules
 
-enum-told-2 : tie.Need-enum-told-2
+enum-told-2 : tie.Need-enum_told-in-Cancel
 enum-told-2 c = search rules
 
-enum-told-3 : tie.Need-enum-told-3
+enum-told-3 : tie.Need-enum_told-in-Move
 enum-told-3 c = search rules
 
-enum-told-4 : tie.Need-enum-told-4
+enum-told-4 : tie.Need-enum_told-in-Advance
 enum-told-4 c = search rules
 
-enum-told-5 : tie.Need-enum-told-5
+enum-told-5 : tie.Need-enum_told-in-Bad
 enum-told-5 c = search rules
 
-returns : tie.Need-returns
+returns : tie.Need-returns-in-Wheel
 unfolding opening_of
-returns c = rw c.before.command.given.1
+returns c = rw c.in-Wheel.is
 
-returns-2 : tie.Need-returns-2
+returns-2 : tie.Need-returns-in-Arm
 unfolding opening_of
-returns-2 c = rw c.enum_told.given.1
+returns-2 c = rw c.in-Arm.is
 
-returns-3 : tie.Need-returns-3
+returns-3 : tie.Need-returns-in-Cancel
 unfolding opening_of
-returns-3 c = rw c.enum-told2.given.1
+returns-3 c = rw c.in-Cancel.is
 
-returns-4 : tie.Need-returns-4
+returns-4 : tie.Need-returns-in-Move
 unfolding opening_of
-returns-4 c = rw c.enum-told3.given.1
+returns-4 c = rw c.in-Move.is
 
-returns-5 : tie.Need-returns-5
+returns-5 : tie.Need-returns-in-Advance
 unfolding opening_of
-returns-5 c = rw c.enum-told4.given.1
+returns-5 c = rw c.in-Advance.is
 
-returns-6 : tie.Need-returns-6
+returns-6 : tie.Need-returns-in-Bad
 unfolding opening_of
-returns-6 c = rw c.enum-told5.given.1
+returns-6 c = rw c.in-Bad.is
 
-pub as-first-spec : {M : Type 1} → statement M
-as-first-spec =
+pub as_first_spec : {M : Type 1} → statement M
+as_first_spec =
     tie.close
     (tie.spec
     enum-known-command

@@ -5,34 +5,34 @@ use borrow.Author.Rules.{rules}
 use Rattle.wheel_script.proofs.commands.of_two.Statement.{statement}
 use Rattle.wheel_script.proofs.commands.of_two.Tie as tie
 
-returns : tie.Need-returns
+returns : tie.Need-returns-then-word-eq-ARM
 unfolding of_two
-returns c = rw (eq-eqb _ _ c.if1.true)
+returns c = rw (eq-eqb _ _ c.if-word-eq-ARM.true)
 
-returns-2 : tie.Need-returns-2
+returns-2 : tie.Need-returns-then-word-eq-CANCEL
 unfolding of_two
-returns-2 c = rw (ne_eqb _ _ c.before.if1.false, eq-eqb _ _ c.if2.true)
+returns-2 c = rw (ne_eqb _ _ c.if-word-eq-ARM.false, eq-eqb _ _ c.if-word-eq-CANCEL.true)
 
-advance-of-requires : tie.Need-advance-of-requires
+advance-of-requires : tie.Need-advance_of-requires
 advance-of-requires c κs = search rules
 
-returns-3 : tie.Need-returns-3
+returns-3 : tie.Need-returns-then-word-eq-ADVANCE
 unfolding of_two
-returns-3 c = rw (ne_eqb _ _ c.before.before.before.if1.false, ne_eqb _ _ c.before.before.if2.false, eq-eqb _ _ c.before.if3.true) c.advance-of.ensures
+returns-3 c = rw (ne_eqb _ _ c.if-word-eq-ARM.false, ne_eqb _ _ c.if-word-eq-CANCEL.false, eq-eqb _ _ c.if-word-eq-ADVANCE.true) c.advance_of.ensures
 
-wheel-of-requires : tie.Need-wheel-of-requires
+wheel-of-requires : tie.Need-wheel_of-requires
 wheel-of-requires c κs = search rules
 
-returns-4 : tie.Need-returns-4
+returns-4 : tie.Need-returns-then-word-eq-WHEEL
 unfolding of_two
-returns-4 c = rw (ne_eqb _ _ c.before.before.before.before.if1.false, ne_eqb _ _ c.before.before.before.if2.false, ne_eqb _ _ c.before.before.if3.false, eq-eqb _ _ c.before.if4.true) c.wheel-of.ensures
+returns-4 c = rw (ne_eqb _ _ c.if-word-eq-ARM.false, ne_eqb _ _ c.if-word-eq-CANCEL.false, ne_eqb _ _ c.if-word-eq-ADVANCE.false, eq-eqb _ _ c.if-word-eq-WHEEL.true) c.wheel_of.ensures
 
-returns-5 : tie.Need-returns-5
+returns-5 : tie.Need-returns
 unfolding of_two
-returns-5 c = rw (ne_eqb _ _ c.before.before.before.if1.false, ne_eqb _ _ c.before.before.if2.false, ne_eqb _ _ c.before.if3.false, ne_eqb _ _ c.if4.false)
+returns-5 c = rw (ne_eqb _ _ c.if-word-eq-ARM.false, ne_eqb _ _ c.if-word-eq-CANCEL.false, ne_eqb _ _ c.if-word-eq-ADVANCE.false, ne_eqb _ _ c.if-word-eq-WHEEL.false)
 
-pub of-two-spec : {M : Type 1} → statement M
-of-two-spec =
+pub of_two_spec : {M : Type 1} → statement M
+of_two_spec =
     tie.close
     (tie.spec
     returns

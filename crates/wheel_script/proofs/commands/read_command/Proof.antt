@@ -5,27 +5,27 @@ use borrow.Author.Rules.{rules}
 use Rattle.wheel_script.proofs.commands.read_command.Statement.{statement}
 use Rattle.wheel_script.proofs.commands.read_command.Tie as tie
 
-read-line-requires : tie.Need-read-line-requires
+read-line-requires : tie.Need-read_line-requires
 read-line-requires c κs = search rules
 
-enum_told : tie.Need-enum-told
+enum_told : tie.Need-enum_told-1
 enum_told c = search rules
 
-enum-known-word : tie.Need-enum-known-word
+enum-known-word : tie.Need-enum_known-word
 enum-known-word c = search rules
 
-of-count-requires : tie.Need-of-count-requires
+of-count-requires : tie.Need-of_count-requires
 of-count-requires c κs = search rules
 
-returns : tie.Need-returns
+returns : tie.Need-returns-in-Bad
 unfolding command_of
-returns c = rw (sym c.before.before.read-line.ensures ∙ c.enum_told.given.1)
+returns c = rw (sym c.read_line.ensures ∙ c.in-Bad.is)
 
-returns-2 : tie.Need-returns-2
+returns-2 : tie.Need-returns-in-Line
 unfolding command_of
-returns-2 c = rw (sym c.before.before.before.before.read-line.ensures ∙ c.before.before.word.given.1) c.of-count.ensures
+returns-2 c = rw (sym c.read_line.ensures ∙ c.in-Line.is) c.of_count.ensures
 
-pub read-command-spec : {M : Type 1} → statement M
-read-command-spec =
+pub read_command_spec : {M : Type 1} → statement M
+read_command_spec =
     tie.close
     (tie.spec read-line-requires enum_told enum-known-word of-count-requires returns returns-2)

@@ -10,40 +10,39 @@ use Rattle.wheel_script.proofs.Firing.{lines_start, lines-again, lines-all}
 use Rattle.wheel_script.proofs.records.fired_lines.Statement.{statement}
 use Rattle.wheel_script.proofs.records.fired_lines.Tie as tie
 
-abbrev invariant-loop : tie.invariant-loop
+abbrev invariant-loop : tie.invariant-loop-i
 invariant-loop out₀ at records k end₀ i₀ out end i = Laid out₀ at (fired_lines (records_in i records)) out end × (i ≤ k)
 
-abbrev decreases-loop : tie.decreases-loop
+abbrev decreases-loop : tie.decreases-loop-i
 decreases-loop out₀ at records k end₀ i₀ out end i = k - i
 
-start-requires : tie.Need-start-requires invariant-loop decreases-loop
+start-requires : tie.Need-start-end-requires invariant-loop decreases-loop
 start-requires c κs = search rules
 
-loop-holds : tie.Need-loop-init invariant-loop decreases-loop
-loop-holds c = (lines_start _ _ _ c.before.before.before.args.records.now c.start.ensures, search rules)
+loop-holds : tie.Need-loop-i-init invariant-loop decreases-loop
+loop-holds c = (lines_start _ _ _ c.args.records.now c.start-end.ensures, search rules)
 
-fired-requires : tie.Need-fired-requires invariant-loop decreases-loop
+fired-requires : tie.Need-fired-end-requires invariant-loop decreases-loop
 fired-requires c κs = search rules
 
-add-i : tie.Need-overflow-add-i invariant-loop decreases-loop
+add-i : tie.Need-overflow_add-i invariant-loop decreases-loop
 add-i c = search rules
 
-loop-less : tie.Need-loop-smaller invariant-loop decreases-loop
+loop-less : tie.Need-loop-i-smaller invariant-loop decreases-loop
 loop-less c = search rules
 
-loop-again : tie.Need-loop-preserved invariant-loop decreases-loop
+loop-again : tie.Need-loop-i-preserved invariant-loop decreases-loop
 loop-again c =
-    let loop = c.before.before.before.before.before in
-    (lines-again _ _ _ _ _ _ _ _ loop.loop.invariant.0 c.before.before.fired.ensures, search rules)
+    (lines-again _ _ _ _ _ _ _ _ c.loop-i.invariant.0 c.fired-end.ensures, search rules)
 
-same_length : tie.Need-same-length invariant-loop decreases-loop
-same_length c = laid-long _ _ _ _ _ c.before.loop.invariant.0
+same_length : tie.Need-shape_of-out invariant-loop decreases-loop
+same_length c = laid-long _ _ _ _ _ c.loop-i.invariant.0
 
 returns : tie.Need-returns invariant-loop decreases-loop
-returns c = lines-all _ _ _ _ _ _ _ c.loop-test.false c.before.loop.invariant.1 c.before.loop.invariant.0
+returns c = lines-all _ _ _ _ _ _ _ c.loop-i-test.false c.loop-i.invariant.1 c.loop-i.invariant.0
 
-pub fired-lines-spec : {M : Type 1} → statement M
-fired-lines-spec =
+pub fired_lines_spec : {M : Type 1} → statement M
+fired_lines_spec =
     tie.close
     (tie.spec
     invariant-loop
