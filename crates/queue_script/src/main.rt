@@ -89,7 +89,15 @@ struct Step {
 }
 
 // Reads once behind the bytes held, answers the whole lines, and carries the rest to the front.
-fn advance(input: Stdin, output: Stdout, buf: &mut [u8], held: usize, out: &mut [u8], w: &mut [u64], session: Session) -> Step
+fn advance(
+    input: Stdin,
+    output: Stdout,
+    buf: &mut [u8],
+    held: usize,
+    out: &mut [u8],
+    w: &mut [u64],
+    session: Session,
+) -> Step
     requires held_in_bounds { held ≤ length buf.old }
     requires session_in_bounds { words_of session ≤ length w.old }
     requires reached_2 { Reached session w.old }

@@ -169,7 +169,9 @@ fn read_all(
     while turns > 0 {
         let held = step.held;
         let session = step.session;
-        step = advance(input, output, buf, held, out, w, first, last, marks, session);
+        step = advance(
+            input, output, buf, held, out, w, first, last, marks, session,
+        );
         if !step.more {
             return step;
         }
@@ -212,6 +214,11 @@ fn main(rt: HostRuntime) {
     run(
         rt.stdin(),
         rt.stdout(),
-        &mut buf, &mut out, &mut w, &mut first, &mut last, &mut marks,
+        &mut buf,
+        &mut out,
+        &mut w,
+        &mut first,
+        &mut last,
+        &mut marks,
     );
 }
