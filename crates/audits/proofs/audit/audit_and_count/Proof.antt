@@ -50,11 +50,6 @@ returns-3 c =
     refused-stack _ _ _ _ _ c.swept-seen.ensures (not-false _ c.if-not-seen.false) _ c.stack_sound.ensures _
     c.refused-then-not-stack_sound.ensures (c.if-not-stack_sound.true)
 
-returns-4 : tie.Need-returns-then-seen-gt0
-returns-4 c =
-    accepted-tables _ _ _ _ _ c.swept-seen.ensures (not-false _ c.if-not-seen.false) _ c.stack_sound.ensures _
-    c.size_sound.ensures (c.if-not-size_sound.false) (c.if-not-stack_sound.false) (search rules)
-
 numbers-differ-requires : tie.Need-numbers_differ-requires
 numbers-differ-requires c κs = search rules
 
@@ -70,6 +65,7 @@ refused-requires-4 c κs = search rules
 returns-6 : tie.Need-returns
 returns-6 c = refused-differ _ _ _ _ _ c.refused-2.ensures _ c.numbers_differ.ensures c.if-numbers_differ.false
 
+-- What an edit of a test would rename is answered where it stands, so that the edit is refused for what it means.
 pub audit_and_count_spec : {M : Type 1} → statement M
 audit_and_count_spec =
     tie.close
@@ -83,7 +79,9 @@ audit_and_count_spec =
     stack-sound-requires
     refused-requires-3
     returns-3
-    returns-4
+    (λ c.
+    accepted-tables _ _ _ _ _ c.swept-seen.ensures (not-false _ c.if-not-seen.false) _ c.stack_sound.ensures _
+    c.size_sound.ensures c.if-not-size_sound.false c.if-not-stack_sound.false (search rules))
     numbers-differ-requires
     returns-5
     refused-requires-4

@@ -24,9 +24,6 @@ ready w w' h words = let e = set-up-right w h in (sym e.0, words ∙ sym e.1)
 returns : tie.Need-returns-then-n-eq0
 returns c = refused _ (size_none _ (search rules))
 
-returns-2 : tie.Need-returns-then-n-gt4096
-returns-2 c = refused _ (size-over _ (search rules))
-
 write-fresh-requires : tie.Need-write_fresh-requires
 write-fresh-requires c κs = search rules
 
@@ -36,5 +33,8 @@ same_length c = search rules
 returns-3 : tie.Need-returns
 returns-3 c = ready _ _ (size-right _ (search rules) (search rules)) c.write_fresh.ensures
 
+-- What an edit of a test would rename is answered where it stands, so that the edit is refused for what it means.
 pub set_up_spec : {M : Type 1} → statement M
-set_up_spec = tie.close (tie.spec returns returns-2 write-fresh-requires same_length returns-3)
+set_up_spec =
+    tie.close
+    (tie.spec returns (λ c. refused _ (size-over _ (search rules))) write-fresh-requires same_length returns-3)

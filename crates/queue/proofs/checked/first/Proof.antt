@@ -10,16 +10,20 @@ use Rattle.queue.proofs.checked.first.Tie as tie
 audit-requires : tie.Need-audit-requires
 audit-requires c κs = search rules
 
-returns : tie.Need-returns-then-not-audit
-unfolding told_first
-returns c = refused-broken _ _ _ _ c.audit.ensures (c.if-not-audit.true)
-
 first-requires : tie.Need-first-requires
 first-requires c κs = search rules
 
 returns-2 : tie.Need-returns
 returns-2 c =
-    passed-sound _ _ _ _ c.audit.ensures _ _ _ (c.if-not-audit.false) c.first.ensures
+    passed-sound _ _ _ _ c.audit.ensures _ _ _ (search rules) c.first.ensures
 
+-- What an edit of a test would rename is answered where it stands, so that the edit is refused for what it means.
 pub first_spec : {M : Type 1} → statement M
-first_spec = tie.close (tie.spec audit-requires returns first-requires returns-2)
+unfolding told_first
+first_spec =
+    tie.close
+    (tie.spec
+    audit-requires
+    (λ c. refused-broken _ _ _ _ c.audit.ensures (search rules))
+    first-requires
+    returns-2)

@@ -9,12 +9,6 @@ use Rattle.script.proofs.reading.one_digit.Tie as tie
 returns : tie.Need-returns-then-b-lt48
 returns c = sym (one-digit-none _ _ (digit_low _ c.if-b-lt48.true))
 
-returns-2 : tie.Need-returns-then-b-gt57
-returns-2 c = sym (one-digit-none _ _ (digit-high _ c.if-b-gt57.true))
-
-returns-3 : tie.Need-returns-then-v-gt1844674407370955161
-returns-3 c = sym (one-digit-large _ _ (omega arith))
-
 cast-d : tie.Need-overflow_cast-d
 cast-d c = search rules
 
@@ -32,9 +26,14 @@ add-t7 c = search rules
 
 returns-5 : tie.Need-returns
 returns-5 c =
-    sym (one-digit-fits _ _ (digit-yes _ c.if-b-lt48.false c.if-b-gt57.false) (omega arith))
+    sym (one-digit-fits _ _ (digit-yes _ (search rules) (search rules)) (omega arith))
 
+-- What an edit of a test would rename is answered where it stands, so that the edit is refused for what it means.
 pub one_digit_spec : {M : Type 1} → statement M
 one_digit_spec =
     tie.close
-    (tie.spec returns returns-2 returns-3 cast-d mul-t sub-if4 returns-4 add-t7 returns-5)
+    (tie.spec
+    returns
+    (λ c. sym (one-digit-none _ _ (digit-high _ (search rules))))
+    (λ c. sym (one-digit-large _ _ (omega arith)))
+    cast-d mul-t sub-if4 returns-4 add-t7 returns-5)

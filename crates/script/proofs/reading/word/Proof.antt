@@ -30,23 +30,12 @@ shared-slice-read-wide c = search rules
 wide-requires : tie.Need-wide-b-requires invariant-loop decreases-loop
 wide-requires c κs = search rules
 
-returns-3 : tie.Need-returns-then-b-le32 invariant-loop decreases-loop
-returns-3 c =
-    word-refused _ _ _
-    c.loop-i-test.true
-    (omega (arith, c.wide-b.ensures))
-    c.loop-i.invariant.1
-    ∙ sym (word_bytes _ c.if-s-eq0.false c.if-s-gt8.false)
-
 -- Seven bytes leave room for one more.
-small : (c : tie.Else-b-le32 invariant-loop decreases-loop) → c.loop-i.value < 72057594037927936
-small c = word_small _ _ c.loop-i.invariant.0 (omega arith)
-
 mul-value : tie.Need-overflow_mul-value invariant-loop decreases-loop
-mul-value c = omega (arith, small c)
+mul-value c = omega (arith, word_small _ _ c.loop-i.invariant.0 (omega arith))
 
 add-value : tie.Need-overflow_add-value invariant-loop decreases-loop
-add-value c = omega (arith, small c)
+add-value c = omega (arith, word_small _ _ c.loop-i.invariant.0 (omega arith))
 
 add-i : tie.Need-overflow_add-i invariant-loop decreases-loop
 add-i c = search rules
@@ -60,7 +49,7 @@ loop-again c = (
   word-again _ _ _ _
       c.loop-i-test.true
       c.wide-b.ensures.0
-      c.if-b-le32.false
+      (search rules)
       c.loop-i.invariant.1,
 )
 
@@ -69,6 +58,7 @@ returns-4 c =
     word_over _ _ _ c.loop-i-test.false c.loop-i.invariant.1
     ∙ sym (word_bytes _ c.if-s-eq0.false c.if-s-gt8.false)
 
+-- What an edit of a test would rename is answered where it stands, so that the edit is refused for what it means.
 pub word_spec : {M : Type 1} → statement M
 word_spec =
     tie.close
@@ -80,7 +70,12 @@ word_spec =
     loop-holds
     shared-slice-read-wide
     wide-requires
-    returns-3
+    (λ c.
+    word-refused _ _ _
+    c.loop-i-test.true
+    (omega (arith, c.wide-b.ensures))
+    c.loop-i.invariant.1
+    ∙ sym (word_bytes _ c.if-s-eq0.false c.if-s-gt8.false))
     mul-value
     add-value
     add-i

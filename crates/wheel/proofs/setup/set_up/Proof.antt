@@ -18,12 +18,6 @@ no-head-requires-2 c κs = search rules
 returns-2 : tie.Need-returns-then-n-gt4096
 returns-2 c = refused-size _ _ _ (size-over _ (search rules)) c.no_head-then-n-gt4096.ensures
 
-no-head-requires-3 : tie.Need-no_head-requires-then-start-gt68719476735
-no-head-requires-3 c κs = search rules
-
-returns-3 : tie.Need-returns-then-start-gt68719476735
-returns-3 c = refused-start _ _ (size-right _ (search rules) (search rules)) _ (search rules) c.no_head-then-start-gt68719476735.ensures
-
 set-up-requires : tie.Need-set_up-made-requires
 set-up-requires c κs = search rules
 
@@ -54,6 +48,7 @@ returns-5 c =
     accepted-both _ _ (size-right _ (search rules) (search rules)) _ _ _ _ (search rules)
     c.set_up-made.ensures.0 c.in-Ready.is c.set_up-made.ensures.1 c.empty_head.ensures
 
+-- What an edit of a test would rename is answered where it stands, so that the edit is refused for what it means.
 pub set_up_spec : {M : Type 1} → statement M
 set_up_spec =
     tie.close
@@ -62,8 +57,8 @@ set_up_spec =
     returns
     no-head-requires-2
     returns-2
-    no-head-requires-3
-    returns-3
+    (λ c κs. search rules)
+    (λ c. refused-start _ _ (size-right _ (search rules) (search rules)) _ (search rules) (search rules))
     set-up-requires
     enum-known-made
     no-head-requires-4
