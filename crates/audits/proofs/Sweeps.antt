@@ -10,7 +10,7 @@ use borrow.Author.Tests.{le-leb, lt-leb}
 use Rattle.cells.specs.Lists.{sum_below}
 use Rattle.cells.specs.Rules.{in_use}
 use Rattle.cells.specs.Stack.{is_free, frees}
-use Rattle.cells.proofs.Cases.{test, clash}
+use Rattle.cells.proofs.Cases.{clash}
 use Rattle.cells.proofs.Stacks.{counts-free, counts-used}
 use Rattle.audits.specs.AuditTests.{all_below, blank_test, numbered_test, used_test}
 use Rattle.audits.specs.Tables.{EntersBoth}

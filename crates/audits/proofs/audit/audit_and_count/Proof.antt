@@ -12,13 +12,6 @@ use Rattle.audits.proofs.Audits.{
 }
 use Rattle.audits.proofs.audit.audit_and_count.Statement.{statement}
 use Rattle.audits.proofs.audit.audit_and_count.Tie as tie
-use Rattle.audits.proofs.audit.audit_and_count.Reads as reads
-use Rattle.audits.proofs.audit.audit_and_count.Lts as lts
-use Rattle.audits.proofs.audit.numbers_differ.Reads as numbers-differ-reads
-use Rattle.audits.proofs.audit.refused.Reads as refused-reads
-use Rattle.audits.proofs.audit.size_sound.Reads as size-sound-reads
-use Rattle.audits.proofs.stack.stack_sound.Reads as stack-sound-reads
-use Rattle.audits.proofs.sweep.swept.Reads as swept-reads
 
 size-sound-requires : tie.Need-size_sound-requires
 size-sound-requires c κs = search rules

@@ -4,10 +4,6 @@ use borrow.Author.Rules.{rules}
 use Rattle.audits.proofs.Audits.{apart-tables, apart-sorted}
 use Rattle.audits.proofs.audit.numbers_differ.Statement.{statement}
 use Rattle.audits.proofs.audit.numbers_differ.Tie as tie
-use Rattle.audits.proofs.audit.numbers_differ.Reads as reads
-use Rattle.audits.proofs.audit.numbers_differ.Lts as lts
-use Rattle.audits.proofs.differ.sorted_differ.Reads as sorted-differ-reads
-use Rattle.audits.proofs.sweep.swept.Reads as swept-reads
 
 swept-requires : tie.Need-swept-again-requires
 swept-requires c κs = search rules

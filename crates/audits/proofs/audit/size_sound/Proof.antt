@@ -4,8 +4,6 @@ use borrow.Author.Rules.{rules}
 use Rattle.audits.proofs.Steps.{size-counter, size-many, size_none, size-other}
 use Rattle.audits.proofs.audit.size_sound.Statement.{statement}
 use Rattle.audits.proofs.audit.size_sound.Tie as tie
-use Rattle.audits.proofs.audit.size_sound.Reads as reads
-use Rattle.audits.proofs.audit.size_sound.Lts as lts
 
 returns : tie.Need-returns-then-s-le4096
 returns c = size-counter _ _ (search rules) (search rules) (search rules)

@@ -4,10 +4,6 @@ use mathlib.Core.Path.{sym, ◌∙◌}
 use borrow.Author.Rules.{rules}
 use Rattle.audits.proofs.cell.entry_sound.Statement.{statement}
 use Rattle.audits.proofs.cell.entry_sound.Tie as tie
-use Rattle.audits.proofs.cell.entry_sound.Reads as reads
-use Rattle.audits.proofs.cell.entry_sound.Lts as lts
-use Rattle.audits.proofs.cell.blank.Reads as blank-reads
-use Rattle.audits.proofs.cell.numbered.Reads as numbered-reads
 
 numbered-requires : tie.Need-numbered-requires
 numbered-requires c κs = search rules

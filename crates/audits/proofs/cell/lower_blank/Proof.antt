@@ -2,14 +2,10 @@
 -- Assumes nothing.
 use Prim.Native.Nat.{◌-◌, ◌≤◌}
 use native.Mathlib.Omega.{arith}
-use borrow.Author.Tests.{not-true, not-false}
 use borrow.Author.Rules.{rules}
 use Rattle.audits.proofs.Steps.{Clear, lower-none, clear_none, clear_next, clear-fails, clear-all}
 use Rattle.audits.proofs.cell.lower_blank.Statement.{statement}
 use Rattle.audits.proofs.cell.lower_blank.Tie as tie
-use Rattle.audits.proofs.cell.lower_blank.Reads as reads
-use Rattle.audits.proofs.cell.lower_blank.Lts as lts
-use Rattle.audits.proofs.cell.clean.Reads as clean-reads
 
 abbrev invariant-loop : tie.invariant-loop-f
 invariant-loop w m c f₀ rest₀ f rest = (f ≤ 4) × Clear w m c f rest

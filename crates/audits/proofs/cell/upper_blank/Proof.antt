@@ -2,15 +2,11 @@
 -- Assumes nothing.
 use Prim.Native.Nat.{◌-◌, ◌≤◌}
 use native.Mathlib.Omega.{arith}
-use borrow.Author.Tests.{not-true, not-false}
 use borrow.Author.Rules.{rules}
 use Rattle.audits.specs.AuditTests.{blank_test}
 use Rattle.audits.proofs.Steps.{Clear, clear-half, clear_next, clear-fails, clear-all}
 use Rattle.audits.proofs.cell.upper_blank.Statement.{statement}
 use Rattle.audits.proofs.cell.upper_blank.Tie as tie
-use Rattle.audits.proofs.cell.upper_blank.Reads as reads
-use Rattle.audits.proofs.cell.upper_blank.Lts as lts
-use Rattle.audits.proofs.cell.clean.Reads as clean-reads
 
 abbrev invariant-loop : tie.invariant-loop-f
 invariant-loop w m c f₀ rest₀ f rest = (f ≤ 8) × Clear w m c f rest

@@ -4,9 +4,6 @@ use borrow.Author.Rules.{rules}
 use Rattle.audits.proofs.Audits.{both_first, both-second}
 use Rattle.audits.proofs.differ.both_distinct.Statement.{statement}
 use Rattle.audits.proofs.differ.both_distinct.Tie as tie
-use Rattle.audits.proofs.differ.both_distinct.Reads as reads
-use Rattle.audits.proofs.differ.both_distinct.Lts as lts
-use Rattle.audits.proofs.differ.distinct.Reads as distinct-reads
 
 distinct-requires : tie.Need-distinct-requires
 distinct-requires c κs = search rules

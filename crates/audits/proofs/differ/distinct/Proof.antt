@@ -6,10 +6,6 @@ use Rattle.cell_sort.specs.Sorted.{neighbours_differ}
 use Rattle.cell_sort.proofs.CellSort.{list-fits}
 use Rattle.audits.proofs.differ.distinct.Statement.{statement}
 use Rattle.audits.proofs.differ.distinct.Tie as tie
-use Rattle.audits.proofs.differ.distinct.Reads as reads
-use Rattle.audits.proofs.differ.distinct.Lts as lts
-use Rattle.cell_sort.proofs.sort.all_differ.Reads as all-differ-reads
-use Rattle.cell_sort.proofs.sort.sort.Reads as sort-reads
 
 sort-requires : tie.Need-sort-requires
 sort-requires c κs = search rules

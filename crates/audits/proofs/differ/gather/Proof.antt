@@ -10,9 +10,6 @@ use Rattle.audits.specs.AuditTests.{used_below}
 use Rattle.audits.proofs.Steps.{used-length, gather-count, gather-step, gather-length}
 use Rattle.audits.proofs.differ.gather.Statement.{statement}
 use Rattle.audits.proofs.differ.gather.Tie as tie
-use Rattle.audits.proofs.differ.gather.Reads as reads
-use Rattle.audits.proofs.differ.gather.Lts as lts
-use Rattle.audits.proofs.differ.note.Reads as note-reads
 
 abbrev invariant-loop : tie.invariant-loop-c
 invariant-loop w n a₀ c₀ m₀ a c m =

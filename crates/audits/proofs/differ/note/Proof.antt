@@ -4,9 +4,6 @@ use borrow.Author.Rules.{rules}
 use Rattle.audits.proofs.Steps.{in_use_lem, not-in-use}
 use Rattle.audits.proofs.differ.note.Statement.{statement}
 use Rattle.audits.proofs.differ.note.Tie as tie
-use Rattle.audits.proofs.differ.note.Reads as reads
-use Rattle.audits.proofs.differ.note.Lts as lts
-use Rattle.cells.proofs.words.get.Reads as get-reads
 
 get-requires : tie.Need-get-requires
 get-requires c κs = search rules

@@ -4,9 +4,6 @@ use borrow.Author.Rules.{rules}
 use Rattle.audits.proofs.Audits.{few-sorted, many-sorted}
 use Rattle.audits.proofs.differ.sorted_differ.Statement.{statement}
 use Rattle.audits.proofs.differ.sorted_differ.Tie as tie
-use Rattle.audits.proofs.differ.sorted_differ.Reads as reads
-use Rattle.audits.proofs.differ.sorted_differ.Lts as lts
-use Rattle.audits.proofs.differ.few_differ.Reads as few-differ-reads
 
 few-differ-requires : tie.Need-few_differ-requires
 few-differ-requires c κs = search rules

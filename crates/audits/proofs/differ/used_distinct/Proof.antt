@@ -8,10 +8,6 @@ use Rattle.audits.specs.AuditTests.{differ_test}
 use Rattle.audits.proofs.Audits.{gathered-fit, gathered-take, gathered-length, gathered-few}
 use Rattle.audits.proofs.differ.used_distinct.Statement.{statement}
 use Rattle.audits.proofs.differ.used_distinct.Tie as tie
-use Rattle.audits.proofs.differ.used_distinct.Reads as reads
-use Rattle.audits.proofs.differ.used_distinct.Lts as lts
-use Rattle.audits.proofs.differ.both_distinct.Reads as both-distinct-reads
-use Rattle.audits.proofs.differ.gather.Reads as gather-reads
 
 gather-requires : tie.Need-gather-m-requires
 gather-requires c κs = search rules

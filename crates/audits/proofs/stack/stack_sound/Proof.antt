@@ -1,17 +1,12 @@
 -- `audits::stack::stack_sound` meets its contract. The invariant: the walk from the top passes exactly if what is left of it passes from c.
 -- Assumes nothing.
 use mathlib.Core.Path.{◌≡◌, sym, ◌∙◌}
-use borrow.Author.Tests.{not-true, not-false}
 use borrow.Author.Rules.{rules}
 use Rattle.cells.specs.Stack.{stands_as, walks}
 use Rattle.cells.proofs.Stacks.{walks-end, walks-on, walks-stuck}
 use Rattle.audits.specs.AuditTests.{blank_test}
 use Rattle.audits.proofs.stack.stack_sound.Statement.{statement}
 use Rattle.audits.proofs.stack.stack_sound.Tie as tie
-use Rattle.audits.proofs.stack.stack_sound.Reads as reads
-use Rattle.audits.proofs.stack.stack_sound.Lts as lts
-use Rattle.audits.proofs.stack.stands.Reads as stands-reads
-use Rattle.cells.proofs.words.get.Reads as get-reads
 
 abbrev invariant-loop : tie.invariant-loop-left
 invariant-loop w n free top links c₀ left₀ c left =

@@ -6,10 +6,6 @@ use Rattle.cells.specs.Stack.{stands_as}
 use Rattle.cells.proofs.Stacks.{stands-below, stands-past}
 use Rattle.audits.proofs.stack.stands.Statement.{statement}
 use Rattle.audits.proofs.stack.stands.Tie as tie
-use Rattle.audits.proofs.stack.stands.Reads as reads
-use Rattle.audits.proofs.stack.stands.Lts as lts
-use Rattle.audits.proofs.cell.blank.Reads as blank-reads
-use Rattle.cells.proofs.stack.is_free.Reads as is-free-reads
 
 is-free-requires : tie.Need-is_free-requires
 is-free-requires c κs = search rules

@@ -9,9 +9,6 @@ use borrow.Author.Rules.{rules}
 use Rattle.audits.proofs.Sweeps.{Sweeping, sweeping-none, sweeping-next, swept_all, swept-broken}
 use Rattle.audits.proofs.sweep.sweep.Statement.{statement}
 use Rattle.audits.proofs.sweep.sweep.Tie as tie
-use Rattle.audits.proofs.sweep.sweep.Reads as reads
-use Rattle.audits.proofs.sweep.sweep.Lts as lts
-use Rattle.audits.proofs.sweep.visit.Reads as visit-reads
 
 abbrev invariant-loop : tie.invariant-loop-c
 invariant-loop w n counter used k t₀ u₀ s₀ c₀ t u s c =

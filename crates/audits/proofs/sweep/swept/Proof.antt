@@ -4,10 +4,6 @@ use borrow.Author.Rules.{rules}
 use Rattle.audits.proofs.Sweeps.{swept-many}
 use Rattle.audits.proofs.sweep.swept.Statement.{statement}
 use Rattle.audits.proofs.sweep.swept.Tie as tie
-use Rattle.audits.proofs.sweep.swept.Reads as reads
-use Rattle.audits.proofs.sweep.swept.Lts as lts
-use Rattle.audits.proofs.sweep.sweep_few.Reads as sweep-few-reads
-use Rattle.audits.proofs.sweep.sweep_many.Reads as sweep-many-reads
 
 sweep-few-requires : tie.Need-sweep_few-requires
 sweep-few-requires c κs = search rules

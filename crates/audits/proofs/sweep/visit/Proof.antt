@@ -4,11 +4,6 @@ use borrow.Author.Rules.{rules}
 use Rattle.audits.proofs.Sweeps.{visits-free, visits-entry, visits-broken}
 use Rattle.audits.proofs.sweep.visit.Statement.{statement}
 use Rattle.audits.proofs.sweep.visit.Tie as tie
-use Rattle.audits.proofs.sweep.visit.Reads as reads
-use Rattle.audits.proofs.sweep.visit.Lts as lts
-use Rattle.audits.proofs.cell.entry_sound.Reads as entry-sound-reads
-use Rattle.audits.proofs.table.enter_both.Reads as enter-both-reads
-use Rattle.cells.proofs.stack.is_free.Reads as is-free-reads
 
 is-free-requires : tie.Need-is_free-requires
 is-free-requires c κs = search rules

@@ -4,11 +4,6 @@ use borrow.Author.Rules.{rules}
 use Rattle.audits.proofs.Tabled.{enters-looking, enters-at-once}
 use Rattle.audits.proofs.table.enter.Statement.{statement}
 use Rattle.audits.proofs.table.enter.Tie as tie
-use Rattle.audits.proofs.table.enter.Reads as reads
-use Rattle.audits.proofs.table.enter.Lts as lts
-use Rattle.audits.proofs.table.look_on.Reads as look-on-reads
-use Rattle.audits.proofs.table.start.Reads as start-reads
-use Rattle.cells.proofs.words.get.Reads as get-reads
 
 get-requires : tie.Need-get-key-requires
 get-requires c κs = search rules

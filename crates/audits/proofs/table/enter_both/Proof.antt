@@ -4,9 +4,6 @@ use borrow.Author.Rules.{rules}
 use Rattle.audits.proofs.Tabled.{both-enter, both-stop}
 use Rattle.audits.proofs.table.enter_both.Statement.{statement}
 use Rattle.audits.proofs.table.enter_both.Tie as tie
-use Rattle.audits.proofs.table.enter_both.Reads as reads
-use Rattle.audits.proofs.table.enter_both.Lts as lts
-use Rattle.audits.proofs.table.enter.Reads as enter-reads
 
 returns : tie.Need-returns-then-c-ge4096
 returns c = both-stop _ _ _ _ _ _ _ _

@@ -5,8 +5,6 @@ use borrow.Author.Rules.{rules}
 use Rattle.audits.specs.Tables.{evenly}
 use Rattle.audits.proofs.table.evenly.Statement.{statement}
 use Rattle.audits.proofs.table.evenly.Tie as tie
-use Rattle.audits.proofs.table.evenly.Reads as reads
-use Rattle.audits.proofs.table.evenly.Lts as lts
 
 add-result : tie.Need-overflow_add-result
 add-result c = search rules

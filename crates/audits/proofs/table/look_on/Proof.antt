@@ -9,9 +9,6 @@ use borrow.Author.Rules.{rules}
 use Rattle.audits.proofs.Tabled.{Looking, looking-start, looking-step, looking-lands, looking-stops}
 use Rattle.audits.proofs.table.look_on.Statement.{statement}
 use Rattle.audits.proofs.table.look_on.Tie as tie
-use Rattle.audits.proofs.table.look_on.Reads as reads
-use Rattle.audits.proofs.table.look_on.Lts as lts
-use Rattle.cell_sort.proofs.sort.word_of.Reads as word-of-reads
 
 abbrev invariant-loop : tie.invariant-loop-rest
 invariant-loop w f c key from t₀ left i₀ rest₀ t i rest = Looking w f key from t₀ t i × (rest ≤ left)

@@ -7,8 +7,6 @@ use Rattle.audits.specs.Tables.{scattered}
 use Rattle.audits.proofs.Tabled.{halves-fit}
 use Rattle.audits.proofs.table.scatter.Statement.{statement}
 use Rattle.audits.proofs.table.scatter.Tie as tie
-use Rattle.audits.proofs.table.scatter.Reads as reads
-use Rattle.audits.proofs.table.scatter.Lts as lts
 
 add-result : tie.Need-overflow_add-result
 add-result c = search rules

@@ -5,10 +5,6 @@ use borrow.Author.Rules.{rules}
 use Rattle.audits.specs.Tables.{scattered, spread_of}
 use Rattle.audits.proofs.table.spread.Statement.{statement}
 use Rattle.audits.proofs.table.spread.Tie as tie
-use Rattle.audits.proofs.table.spread.Reads as reads
-use Rattle.audits.proofs.table.spread.Lts as lts
-use Rattle.audits.proofs.table.evenly.Reads as evenly-reads
-use Rattle.audits.proofs.table.scatter.Reads as scatter-reads
 
 evenly-requires : tie.Need-evenly-requires
 evenly-requires c κs = search rules

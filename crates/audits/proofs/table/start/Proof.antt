@@ -4,9 +4,6 @@ use borrow.Author.Rules.{rules}
 use Rattle.audits.proofs.Tabled.{start_small, start-large}
 use Rattle.audits.proofs.table.start.Statement.{statement}
 use Rattle.audits.proofs.table.start.Tie as tie
-use Rattle.audits.proofs.table.start.Reads as reads
-use Rattle.audits.proofs.table.start.Lts as lts
-use Rattle.audits.proofs.table.spread.Reads as spread-reads
 
 spread-requires : tie.Need-spread-requires
 spread-requires c κs = search rules

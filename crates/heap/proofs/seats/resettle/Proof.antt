@@ -1,7 +1,6 @@
 -- `heap::seats::resettle` meets its contract: no such position, none passed, or some and the entry itself. Assumes nothing.
 use native.Mathlib.Omega.{arith}
 use mathlib.Core.Path.{refl, sym, ◌∙◌}
-use borrow.Author.Tests.{not-true, not-false}
 use Rattle.heap.specs.Seats.{standing}
 use Rattle.heap.proofs.SeatSteps.{reach-true}
 use Rattle.heap.proofs.SeatWalks.{same-walk, settle-steps, resettle-out, resettle-still, resettle-moves}

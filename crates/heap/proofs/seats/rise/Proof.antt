@@ -5,7 +5,6 @@ use native.Mathlib.Omega.{arith}
 use mathlib.Core.Path.{◌≡◌, refl, sym, ◌∙◌}
 use lib.ListN.{length}
 use Rattle.heap.specs.Seats.{rise_walk}
-use borrow.Author.Tests.{not-true, not-false}
 use Rattle.heap.proofs.Permutes.{parent-at_most}
 use Rattle.heap.proofs.SeatSteps.{seat-position, parent-seat}
 use Rattle.heap.proofs.SeatWalks.{may-rise-top, may-rise-is, rise-on, rise-done}

@@ -4,7 +4,6 @@ use Prim.Native.Nat.{◌-◌, ◌≤◌, ◌<◌}
 use native.Mathlib.Omega.{arith}
 use mathlib.Core.Path.{◌≡◌, refl, sym, ◌∙◌}
 use lib.ListN.{length}
-use borrow.Author.Tests.{not-true, not-false}
 use Rattle.heap.specs.Seats.{sink_walk}
 use Rattle.heap.proofs.SeatWalks.{child_fits, may-sink-out, may-sink-is, child-behind, sink-on, sink-done}
 use borrow.Author.Rules.{rules}

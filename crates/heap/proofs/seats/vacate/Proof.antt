@@ -1,7 +1,6 @@
 -- `heap::seats::vacate` meets its contract: no such position, the last, or one that the last entry fills. Assumes nothing.
 use native.Mathlib.Omega.{arith}
 use mathlib.Core.Path.{refl, sym, ◌∙◌}
-use borrow.Author.Tests.{not-true, not-false}
 use Rattle.heap.specs.Seats.{standing}
 use Rattle.heap.proofs.SeatSteps.{reach-true}
 use Rattle.heap.proofs.SeatWalks.{same-walk, vacate-out, vacate-last, vacate-inner}

@@ -7,12 +7,6 @@ use borrow.Author.Rules.{rules}
 use Rattle.queue.proofs.Audits.{head-rule, fails-head, fails-shared, fails-count, fails-seats, passes-all}
 use Rattle.queue.proofs.audit.audit.Statement.{statement}
 use Rattle.queue.proofs.audit.audit.Tie as tie
-use Rattle.queue.proofs.audit.audit.Reads as reads
-use Rattle.queue.proofs.audit.audit.Lts as lts
-use Rattle.audits.proofs.audit.audit_and_count.Reads as audit-and-count-reads
-use Rattle.queue.proofs.audit.head_sound.Reads as head-sound-reads
-use Rattle.queue.proofs.audit.rest_blank.Reads as rest-blank-reads
-use Rattle.queue.proofs.audit.seats_sound.Reads as seats-sound-reads
 
 head-sound-requires : tie.Need-head_sound-requires
 head-sound-requires c κs = search rules

@@ -4,9 +4,6 @@ use borrow.Author.Rules.{rules}
 use Rattle.queue.proofs.Families.{family-next, family-stays}
 use Rattle.queue.proofs.audit.family_of.Statement.{statement}
 use Rattle.queue.proofs.audit.family_of.Tie as tie
-use Rattle.queue.proofs.audit.family_of.Reads as reads
-use Rattle.queue.proofs.audit.family_of.Lts as lts
-use Rattle.heap.proofs.seats.look.Reads as look-reads
 
 look-requires : tie.Need-look-parent-requires
 look-requires c κs = search rules

@@ -11,9 +11,6 @@ use Rattle.queue.specs.AuditTests.{beyond_test}
 use Rattle.queue.proofs.AuditSteps.{beyond-none, beyond-zero, beyond-other, beyond-end}
 use Rattle.queue.proofs.audit.rest_blank.Statement.{statement}
 use Rattle.queue.proofs.audit.rest_blank.Tie as tie
-use Rattle.queue.proofs.audit.rest_blank.Reads as reads
-use Rattle.queue.proofs.audit.rest_blank.Lts as lts
-use Rattle.cells.proofs.words.get.Reads as get-reads
 
 abbrev invariant-loop : tie.invariant-loop-p
 invariant-loop w count n p₀ p = (count ≤ p) × (all_below p (beyond_test w count) ≡ true)

@@ -4,11 +4,6 @@ use borrow.Author.Rules.{rules}
 use Rattle.queue.proofs.AuditSteps.{seat-outside, seat-free, seat-unknown, seat-behind}
 use Rattle.queue.proofs.audit.seat_sound.Statement.{statement}
 use Rattle.queue.proofs.audit.seat_sound.Tie as tie
-use Rattle.queue.proofs.audit.seat_sound.Reads as reads
-use Rattle.queue.proofs.audit.seat_sound.Lts as lts
-use Rattle.cells.proofs.stack.is_free.Reads as is-free-reads
-use Rattle.cells.proofs.words.get.Reads as get-reads
-use Rattle.heap.proofs.seats.is_before.Reads as is-before-reads
 
 get-requires : tie.Need-get-c-requires
 get-requires c κs = search rules

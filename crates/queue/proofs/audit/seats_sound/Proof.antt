@@ -4,7 +4,6 @@ use Prim.Native.Nat.{◌-◌, ◌≤◌}
 use native.Mathlib.Omega.{arith}
 use mathlib.Core.Bool.{true}
 use mathlib.Core.Path.{◌≡◌, refl, sym, ◌∙◌}
-use borrow.Author.Tests.{not-true, not-false}
 use borrow.Author.Rules.{rules}
 use Rattle.audits.specs.AuditTests.{all_below}
 use Rattle.audits.proofs.Below.{below_step, below_fails, below_end}
@@ -12,10 +11,6 @@ use Rattle.queue.specs.AuditTests.{seat_test}
 use Rattle.queue.proofs.Families.{Turn, turn-root, turn-own, own_turn, own-seat}
 use Rattle.queue.proofs.audit.seats_sound.Statement.{statement}
 use Rattle.queue.proofs.audit.seats_sound.Tie as tie
-use Rattle.queue.proofs.audit.seats_sound.Reads as reads
-use Rattle.queue.proofs.audit.seats_sound.Lts as lts
-use Rattle.queue.proofs.audit.family_of.Reads as family-of-reads
-use Rattle.queue.proofs.audit.seat_sound.Reads as seat-sound-reads
 
 abbrev invariant-loop : tie.invariant-loop-p
 invariant-loop w d n count f₀ p₀ f p = (p ≤ count) × Turn w d p f × (all_below p (seat_test w d n) ≡ true)

@@ -1,6 +1,5 @@
 -- `queue::checked::remove` meets its contract: the audit fails, or it passes and the call is made.
 -- Assumes nothing.
-use borrow.Author.Tests.{not-true, not-false}
 use borrow.Author.Rules.{rules}
 use Rattle.queue.specs.Answers.{told_remove}
 use Rattle.queue.proofs.Checking.{refused-broken, passed-sound}

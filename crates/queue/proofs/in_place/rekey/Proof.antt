@@ -1,7 +1,6 @@
 -- `queue::in_place::rekey` meets its contract: a handle that names nothing, a counter that is spent, or the entry settles with its new key.
 -- Assumes nothing.
 use mathlib.Core.Path.{sym, ◌∙◌}
-use borrow.Author.Tests.{not-true, not-false}
 use Rattle.queue.specs.Answers.{told_rekey}
 use Rattle.queue.proofs.Promised.{rekey-refused, rekey-full, rekeyed-all}
 use borrow.Author.Rules.{rules}

@@ -1,7 +1,6 @@
 -- `queue::in_place::remove` meets its contract: a handle that names nothing, no entry at all, or the entry leaves and its cell is given back.
 -- Assumes nothing.
 use mathlib.Core.Path.{sym, ◌∙◌}
-use borrow.Author.Tests.{not-true, not-false}
 use Rattle.queue.specs.Answers.{told_remove}
 use Rattle.queue.proofs.Promised.{remove-refused, remove-none, removed}
 use borrow.Author.Rules.{rules}

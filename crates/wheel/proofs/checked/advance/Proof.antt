@@ -1,6 +1,5 @@
 -- `wheel::checked::advance` meets its contract: the audit fails, or it passes and the call is made.
 -- Assumes nothing.
-use borrow.Author.Tests.{not-true, not-false}
 use Rattle.wheel.proofs.Checking.{advance-broken, advance-sound}
 use borrow.Author.Rules.{rules}
 use Rattle.wheel.proofs.checked.advance.Statement.{statement}

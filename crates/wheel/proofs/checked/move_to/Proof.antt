@@ -1,6 +1,5 @@
 -- `wheel::checked::move_to` meets its contract: the audit fails, or it passes and the call is made.
 -- Assumes nothing.
-use borrow.Author.Tests.{not-true, not-false}
 use Rattle.wheel.specs.Answers.{told_move}
 use Rattle.wheel.proofs.Checking.{refused-broken, passed-sound}
 use borrow.Author.Rules.{rules}

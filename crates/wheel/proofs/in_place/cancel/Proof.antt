@@ -1,7 +1,6 @@
 -- `wheel::in_place::cancel` meets its contract: a handle that names nothing, or the timer leaves its list and its cell is given back.
 -- Assumes nothing.
 use mathlib.Core.Path.{sym, ◌∙◌}
-use borrow.Author.Tests.{not-true, not-false}
 use Rattle.dial.specs.Turns.{with_words}
 use Rattle.wheel.specs.Answers.{told_cancel}
 use Rattle.wheel.proofs.Promised.{cancel-refused, cancelled}

@@ -1,7 +1,6 @@
 -- `wheel::in_place::move_to` meets its contract: a handle that names nothing, too late or too early a deadline, a counter that is spent, or the timer is filed anew.
 -- Assumes nothing.
 use mathlib.Core.Path.{sym, ◌∙◌}
-use borrow.Author.Tests.{not-true, not-false}
 use Rattle.wheel.specs.Answers.{told_move}
 use Rattle.wheel.proofs.Promised.{move-refused, move-high, move-low, move-full, moved}
 use borrow.Author.Rules.{rules}

@@ -5,7 +5,6 @@ use native.Mathlib.Omega.{arith}
 use mathlib.Core.Bool.{true}
 use mathlib.Core.Path.{◌≡◌, refl, sym, ◌∙◌}
 use borrow.Author.Rules.{rules}
-use borrow.Author.Tests.{not-true, not-false}
 use Rattle.audits.specs.AuditTests.{all_below}
 use Rattle.audits.proofs.Below.{below_step, below_fails, below_end}
 use Rattle.wheel_rules.specs.AuditTests.{mark_test}

@@ -5,7 +5,6 @@ use native.Mathlib.Omega.{arith}
 use mathlib.Core.Path.{◌≡◌, refl, sym, ◌∙◌}
 use lib.ListN.{length, drop}
 use borrow.Author.Rules.{rules}
-use borrow.Author.Tests.{not-true, not-false}
 use Rattle.wheel_rules.specs.AuditTests.{neighbours_rise}
 use Rattle.wheel_rules.proofs.AuditSteps.{rise-fails, rise-step, rise-end}
 use Rattle.wheel_rules.proofs.order.all_rise.Statement.{statement}

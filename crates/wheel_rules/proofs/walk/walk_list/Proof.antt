@@ -4,7 +4,6 @@ use Prim.Native.Nat.{◌-◌}
 use native.Mathlib.Omega.{arith}
 use mathlib.Core.Path.{refl, sym, ◌∙◌}
 use borrow.Author.Rules.{rules}
-use borrow.Author.Tests.{not-true, not-false}
 use Rattle.wheel_rules.proofs.Walks.{stand-rule}
 use Rattle.wheel_rules.proofs.Noting.{Walking, walking_start, walking_on, walking-stop, walking-full}
 use Rattle.wheel_rules.proofs.walk.walk_list.Statement.{statement}
