@@ -57,7 +57,7 @@ fn answer(out: &mut [u8], at: usize, w: &mut [u64], session: Session, line: &[u8
 // Answers the whole lines of a chunk, and says where the rest begins and where the run stands.
 fn answer_lines(output: Stdout, s: &[u8], out: &mut [u8], w: &mut [u64], session: Session) -> Turn
     requires session_in_bounds { words_of session ≤ length w.old }
-    requires reached_2 { Reached session w.old }
+    requires reached_before { Reached session w.old }
     ensures within { Within result (length s.now) (length w.old) }
     ensures reached { Reached result.session w.new }
 {
@@ -100,7 +100,7 @@ fn advance(
 ) -> Step
     requires held_in_bounds { held ≤ length buf.old }
     requires session_in_bounds { words_of session ≤ length w.old }
-    requires reached_2 { Reached session w.old }
+    requires reached_before { Reached session w.old }
     ensures within { (result.held ≤ length buf.old) × (words_of result.session ≤ length w.old) }
     ensures reached { Reached result.session w.new }
 {

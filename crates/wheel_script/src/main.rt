@@ -76,7 +76,7 @@ fn answer_lines(
     session: Session,
 ) -> Turn
     requires session_in_bounds { words_of session ≤ length w.old }
-    requires reached_2 { Reached session w.old first.old last.old marks.old }
+    requires reached_before { Reached session w.old first.old last.old marks.old }
     ensures within { Within result (length s.now) (length w.old) }
     ensures reached { Reached result.session w.new first.new last.new marks.new }
 {
@@ -122,7 +122,7 @@ fn advance(
 ) -> Step
     requires held_in_bounds { held ≤ length buf.old }
     requires session_in_bounds { words_of session ≤ length w.old }
-    requires reached_2 { Reached session w.old first.old last.old marks.old }
+    requires reached_before { Reached session w.old first.old last.old marks.old }
     ensures within { (result.held ≤ length buf.old) × (words_of result.session ≤ length w.old) }
     ensures reached { Reached result.session w.new first.new last.new marks.new }
 {
