@@ -75,11 +75,11 @@ still-named b n c k [] s kept h e m = refl
 still-named b n c k (call ∷ calls) s kept h e m =
     let ch : Change = (outcome b n call s).change in
     let ends-not = or-false (ends c k ch s) (ended b n c k calls (apply ch s)) e in
-    let Moves-not = or-false (moves c k ch) (moved b n c k calls (apply ch s)) m in
+    let moves-not = or-false (moves c k ch) (moved b n c k calls (apply ch s)) m in
     still-named b n c k calls (apply ch s) (kept-apply s kept ch (allowed b n s call)) (omega (arith, counter-apply ch s)) ends-not.1
-    Moves-not.1
+    moves-not.1
     ∙ becomes-apply s kept c k ch (allowed b n s call) h
-    ∙ becomes-still c k ch s (named c k s.entries) ends-not.0 Moves-not.0
+    ∙ becomes-still c k ch s (named c k s.entries) ends-not.0 moves-not.0
 
 -- "or never once the clock is brought past it": over any calls of the wheel, a timer that no call moved has ended by the time the clock is past its deadline.
 pub passed : (b n c k : ℕ) (e : Entry) (calls : List Call) (s : Plain) → All OfWheel calls → Kept s → Timed b n s → named c k s.entries ≡ some e

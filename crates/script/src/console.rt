@@ -2,12 +2,14 @@
 // that fails is let go.
 
 ghost use Rattle.std.specs.Prelude.{◌≡◌, ◌≤◌, length};
+ghost use Rattle.std.proofs.Math.ListN.{replicate};
 
 use std::io::{Read, Stdin, Stdout, Write};
 
-// 65,536 zeros, so that a long input is read in few calls. The contract gives the length alone, which lending the array as a slice needs.
+// 65,536 zeros, so that a long input is read in few calls. The length stands apart, since lending the array as a slice needs it.
 pub fn large_buffer() -> [u8; 65536]
-    ensures { 65536 ≡ length result }
+    ensures length { 65536 ≡ length result }
+    ensures zeros { result ≡ replicate 65536 0 }
 {
     [0; 65536]
 }
