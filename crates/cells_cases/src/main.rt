@@ -36,12 +36,12 @@ fn build(w: &mut [u64]) -> Store {
     fill(w, fresh)
 }
 
-fn say(output: Stdout, name: &[u8], ok: bool) {
-    write_all(output, name);
+fn say(mut output: Stdout, name: &[u8], ok: bool) {
+    write_all(&mut output, name);
     if ok {
-        write_all(output, b": yes\n");
+        write_all(&mut output, b": yes\n");
     } else {
-        write_all(output, b": no\n");
+        write_all(&mut output, b": no\n");
     }
 }
 
@@ -73,11 +73,11 @@ fn tail(output: Stdout, name: &[u8]) {
 }
 
 // A store of its own in lent words that hold anything.
-fn fresh(output: Stdout, name: &[u8], w: &mut [u64]) {
+fn fresh(mut output: Stdout, name: &[u8], w: &mut [u64]) {
     match set_up(w) {
         SetUp::Refused(_) => {
-            write_all(output, name);
-            write_all(output, b": refused 1\n");
+            write_all(&mut output, name);
+            write_all(&mut output, b": refused 1\n");
         }
         SetUp::Ready(s) => say(output, name, audit(w, s, USED, FREE)),
     }

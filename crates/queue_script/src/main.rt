@@ -18,12 +18,12 @@ use script::scan::next;
 use std::io::{Stdin, Stdout};
 
 // Writes out what stands before `at` where the next answer may not fit behind it: no answer is longer than 256 bytes.
-fn flushed(output: Stdout, out: &[u8], at: usize) -> usize
+fn flushed(mut output: Stdout, out: &[u8], at: usize) -> usize
     requires { at ≤ length out.now }
     ensures { result ≤ length out.now }
 {
     if out.len() - at < 256 {
-        write_all(output, &out[..at]);
+        write_all(&mut output, &out[..at]);
         return 0;
     }
     at
@@ -55,7 +55,13 @@ fn answer(out: &mut [u8], at: usize, w: &mut [u64], session: Session, line: &[u8
 }
 
 // Answers the whole lines of a chunk, and says where the rest begins and where the run stands.
-fn answer_lines(output: Stdout, s: &[u8], out: &mut [u8], w: &mut [u64], session: Session) -> Turn
+fn answer_lines(
+    mut output: Stdout,
+    s: &[u8],
+    out: &mut [u8],
+    w: &mut [u64],
+    session: Session,
+) -> Turn
     requires session_in_bounds { words_of session ≤ length w.old }
     requires reached_before { Reached session w.old }
     ensures within { Within result (length s.now) (length w.old) }
@@ -73,7 +79,7 @@ fn answer_lines(output: Stdout, s: &[u8], out: &mut [u8], w: &mut [u64], session
         at = end + 1;
         end = next(s, at, 10);
     }
-    write_all(output, &out[..o]);
+    write_all(&mut output, &out[..o]);
     Turn {
         end: at,
         session: run,
@@ -90,7 +96,7 @@ struct Step {
 
 // Reads once behind the bytes held, answers the whole lines, and carries the rest to the front.
 fn advance(
-    input: Stdin,
+    mut input: Stdin,
     output: Stdout,
     buf: &mut [u8],
     held: usize,
@@ -105,7 +111,7 @@ fn advance(
     ensures reached { Reached result.session w.new }
 {
     let room = &mut buf[held..];
-    let got = read_some(input, room);
+    let got = read_some(&mut input, room);
     if got == 0 {
         return Step {
             held,
@@ -148,7 +154,7 @@ fn read_all(input: Stdin, output: Stdout, buf: &mut [u8], out: &mut [u8], w: &mu
 }
 
 // The last line may lack its line feed: what is held at the end of the input is a line.
-fn run(input: Stdin, output: Stdout, buf: &mut [u8], out: &mut [u8], w: &mut [u64])
+fn run(input: Stdin, mut output: Stdout, buf: &mut [u8], out: &mut [u8], w: &mut [u64])
     requires { 4096 ≤ length w.old }
 {
     let step = read_all(input, output, buf, out, w);
@@ -157,7 +163,7 @@ fn run(input: Stdin, output: Stdout, buf: &mut [u8], out: &mut [u8], w: &mut [u6
         let session = step.session;
         let turn = answer(out, 0, w, session, &buf[..held]);
         let end = turn.end;
-        write_all(output, &out[..end]);
+        write_all(&mut output, &out[..end]);
     }
 }
 

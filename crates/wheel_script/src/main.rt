@@ -19,12 +19,12 @@ use script::scan::next;
 use std::io::{Stdin, Stdout};
 
 // Writes out what stands before `at` where the next answer may not fit behind it: the longest answers an advance, by 64 lines of at most 90 bytes and one of at most 60.
-fn flushed(output: Stdout, out: &[u8], at: usize) -> usize
+fn flushed(mut output: Stdout, out: &[u8], at: usize) -> usize
     requires { at ≤ length out.now }
     ensures { result ≤ length out.now }
 {
     if out.len() - at < 8192 {
-        write_all(output, &out[..at]);
+        write_all(&mut output, &out[..at]);
         return 0;
     }
     at
@@ -66,7 +66,7 @@ fn answer(
 
 // Answers the whole lines of a chunk, and says where the rest begins and where the run stands.
 fn answer_lines(
-    output: Stdout,
+    mut output: Stdout,
     s: &[u8],
     out: &mut [u8],
     w: &mut [u64],
@@ -92,7 +92,7 @@ fn answer_lines(
         at = end + 1;
         end = next(s, at, 10);
     }
-    write_all(output, &out[..o]);
+    write_all(&mut output, &out[..o]);
     Turn {
         end: at,
         session: run,
@@ -109,7 +109,7 @@ struct Step {
 
 // Reads once behind the bytes held, answers the whole lines, and carries the rest to the front.
 fn advance(
-    input: Stdin,
+    mut input: Stdin,
     output: Stdout,
     buf: &mut [u8],
     held: usize,
@@ -127,7 +127,7 @@ fn advance(
     ensures reached { Reached result.session w.new first.new last.new marks.new }
 {
     let room = &mut buf[held..];
-    let got = read_some(input, room);
+    let got = read_some(&mut input, room);
     if got == 0 {
         return Step {
             held,
@@ -183,7 +183,7 @@ fn read_all(
 // The last line may lack its line feed: what is held at the end of the input is a line.
 fn run(
     input: Stdin,
-    output: Stdout,
+    mut output: Stdout,
     buf: &mut [u8],
     out: &mut [u8],
     w: &mut [u64],
@@ -199,7 +199,7 @@ fn run(
         let session = step.session;
         let turn = answer(out, 0, w, first, last, marks, session, &buf[..held]);
         let end = turn.end;
-        write_all(output, &out[..end]);
+        write_all(&mut output, &out[..end]);
     }
 }
 

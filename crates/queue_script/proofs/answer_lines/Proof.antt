@@ -12,11 +12,11 @@ use Rattle.queue_script.proofs.answer_lines.Statement.{statement}
 use Rattle.queue_script.proofs.answer_lines.Tie as tie
 
 abbrev invariant-loop : tie.invariant-loop-end
-invariant-loop output s out₀ w₀ run₀ at₀ end₀ o₀ out w run at end o =
+invariant-loop s out₀ w₀ output run₀ at₀ end₀ o₀ out w run at end o =
     (at ≤ length s) × (at ≤ end) × (o ≤ length out) × (length out ≡ length out₀) × (words_of run ≤ length w) × (length w ≡ length w₀) × Reached run w
 
 abbrev decreases-loop : tie.decreases-loop-end
-decreases-loop output s out₀ w₀ run₀ at₀ end₀ o₀ out w run at end o = length s - at
+decreases-loop s out₀ w₀ output run₀ at₀ end₀ o₀ out w run at end o = length s - at
 
 next-requires : tie.Need-next-end-requires invariant-loop decreases-loop
 next-requires c κs = search rules

@@ -12,12 +12,12 @@ use Rattle.wheel_script.proofs.answer_lines.Statement.{statement}
 use Rattle.wheel_script.proofs.answer_lines.Tie as tie
 
 abbrev invariant-loop : tie.invariant-loop-end
-invariant-loop output s out₀ w₀ first₀ last₀ marks₀ run₀ at₀ end₀ o₀ out w first last marks run at end o =
+invariant-loop s out₀ w₀ first₀ last₀ marks₀ output run₀ at₀ end₀ o₀ out w first last marks run at end o =
     (at ≤ length s) × (at ≤ end) × (o ≤ length out) × (length out ≡ length out₀) × (words_of run ≤ length w) × (length w ≡ length w₀)
     × (length first ≡ length first₀) × (length last ≡ length last₀) × (length marks ≡ length marks₀) × Reached run w first last marks
 
 abbrev decreases-loop : tie.decreases-loop-end
-decreases-loop output s out₀ w₀ first₀ last₀ marks₀ run₀ at₀ end₀ o₀ out w first last marks run at end o = length s - at
+decreases-loop s out₀ w₀ first₀ last₀ marks₀ output run₀ at₀ end₀ o₀ out w first last marks run at end o = length s - at
 
 next-requires : tie.Need-next-end-requires invariant-loop decreases-loop
 next-requires c κs = search rules
