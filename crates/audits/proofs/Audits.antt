@@ -3,21 +3,20 @@
 use Prim.Native.Nat.{ℕ, ◌≤◌, ◌<◌, ◌/◌}
 use native.Mathlib.Omega.{arith}
 use mathlib.Core.Bool.{Bool, true, false, cond, ◌&&◌}
-use mathlib.Core.List.{List, ◌++◌}
+use mathlib.Core.List.{List}
 use mathlib.Core.Logic.{◌↔◌}
 use mathlib.Core.Path.{◌≡◌, refl, sym, ap, ◌∙◌}
 use lib.Dec.{leb, ltb, eqb}
-use lib.ListN.{length, take, drop}
-use lib.Seq.{take_at}
-use borrow.Author.Tests.{eq-eqb, eqb-true, leb-true, le-leb, lt-leb, lt-ltb, ltb-true}
+use lib.ListN.{length}
+use borrow.Author.Tests.{eq-eqb, eqb-true, leb-true, le-leb, lt-ltb, ltb-true}
 use Rattle.cells.specs.Lists.{times}
 use Rattle.cell_sort.specs.Sorted.{sort_by, cell_leq, neighbours_differ}
 use Rattle.cells.specs.Rules.{in_use, Differ, Sound}
 use Rattle.audits.specs.AuditTests.{all_below, blank_test, used_test, differ_test, used_below, size_test, shared_test}
 use Rattle.cells.specs.Stack.{stands_as, walks, stack_test}
 use Rattle.audits.specs.Sweeping.{Swept}
-use Rattle.audits.specs.Verdicts.{refusal, Judged, TellsApart}
-use Rattle.audits.specs.declared.audit.Verdict.{Verdict}
+use Rattle.audits.specs.Verdicts.{Judged, TellsApart}
+use Rattle.std.specs.declared.option.Option.TheVariants.{None, Some}
 use Rattle.audits.specs.declared.sweep.Findings.{Findings}
 use Rattle.cells.specs.declared.store.Store.{Store}
 use Rattle.cells.proofs.Cases.{test, clash, and-true}
@@ -25,7 +24,7 @@ use Rattle.cell_sort.proofs.Sorting.{times-sort}
 use Rattle.cells.proofs.Stacks.{stack_test-exactly}
 use Rattle.audits.proofs.Rules.{cells-rules, times-used}
 use Rattle.cell_sort.proofs.Distinct.{sorted-differ}
-use Rattle.audits.proofs.Steps.{used-length, gather-length}
+use Rattle.audits.proofs.Steps.{used-length}
 
 -- The first of two tests fails, or the second decides.
 pub both_first : (w a : List ℕ) (r : Bool) → r ≡ neighbours_differ w 0 (sort_by (cell_leq w 0 0) a) → r ≡ false → false ≡ differ_test w a
@@ -37,17 +36,6 @@ pub both-second : (w a b : List ℕ) (r q : Bool) → r ≡ neighbours_differ w 
     → q ≡ differ_test w a
 unfolding differ_test
 both-second w a b r q e t p h = rw (sym e ∙ t) (h ∙ ap (λ (l : List ℕ). neighbours_differ w 1 (sort_by (cell_leq w 1 1) l)) p)
-
--- What `gather` leaves: so many cells fit, and they are those in use.
-module _ (w a a' : List ℕ) (n r : ℕ) (count : r ≡ length (used_below w n)) (list : a' ≡ used_below w n ++ drop r a) where
-  pub gathered-fit : n ≤ length a → r ≤ length a'
-  gathered-fit h = omega (arith, used-length w n, gather-length w a a' n r count h list)
-
-  pub gathered-take : take r a' ≡ used_below w n
-  gathered-take = ap (take r) list ∙ take_at (used_below w n) (drop r a) r (sym count)
-
-  pub gathered-length : length (take r a') ≡ r
-  gathered-length = ap length gathered-take ∙ sym count
 
 pub gathered-few : (w : List ℕ) (n r : ℕ) → r ≡ length (used_below w n) → r ≤ n
 gathered-few w n r count = omega (arith, used-length w n)
@@ -171,67 +159,49 @@ module _ (w : List ℕ) (s : Store) (used free : ℕ) where
     λ h. rw (sound-size h, sound-used h, sound-stack h) (sound-differ h),
   )
 
-  -- What is told of memory that is not sound, by the test that fails.
-  refused : (v : Verdict) → v ≡ refusal → (Sound w s used free → ⊥) → Judged w s used free v
-  refused v e n = rw e (record { exact = (λ t. clash t refl, λ h. absurd (n h)); count = refl })
+  -- The first test that fails.
+  refused : (Sound w s used free → ⊥) → Judged w s used free None
+  refused n = record { exact = (λ t. clash t refl, λ h. absurd (n h)); count = tt }
 
-  pub refused-size : (v : Verdict) → v ≡ refusal → (r : Bool) → r ≡ size_test (length w) s → r ≡ false
-      → Judged w s used free v
-  refused-size v q r e f = refused v q (λ h. clash (e ∙ sound-size h) f)
+  pub refused-size : (r : Bool) → r ≡ size_test (length w) s → r ≡ false → Judged w s used free None
+  refused-size r e f = refused (λ h. clash (e ∙ sound-size h) f)
 
-  pub refused-entry : (v : Verdict) → v ≡ refusal → (r : Findings) → Swept w s.cells s.counter used r → r.sound ≡ false
-      → Judged w s used free v
-  refused-entry v q r e f = refused v q (λ h. clash (e.test ∙ rw (le-leb s.cells 4096 h.most) (sound-used h)) f)
+  pub refused-entry : Swept w s.cells s.counter used None → Judged w s used free None
+  refused-entry e = refused (λ h. clash (e.test ∙ rw (le-leb s.cells 4096 h.most) (sound-used h)) refl)
 
-  module _ (r : Findings) (seen : Swept w s.cells s.counter used r) (keeps : r.sound ≡ true) (x : Bool)
+  module _ (r : Findings) (seen : Swept w s.cells s.counter used (Some r)) (x : Bool)
       (stack : x ≡ walks w (stands_as w s.cells (blank_test w free)) s.free r.free)
     where
       -- The stack is walked as far as there are free cells.
       stack-walked : x ≡ stack_test w s.cells (blank_test w free) s.free
       unfolding stack_test
-      stack-walked = stack ∙ ap (walks w (stands_as w s.cells (blank_test w free)) s.free) (seen.count keeps)
+      stack-walked = stack ∙ ap (walks w (stands_as w s.cells (blank_test w free)) s.free) seen.count
 
-      pub refused-stack : (v : Verdict) → v ≡ refusal → x ≡ false → Judged w s used free v
-      refused-stack v q f = refused v q (λ h. clash (stack-walked ∙ sound-stack h) f)
+      pub refused-stack : x ≡ false → Judged w s used free None
+      refused-stack f = refused (λ h. clash (stack-walked ∙ sound-stack h) f)
 
       module _ (size : Bool) (sized : size ≡ size_test (length w) s) (fits : size ≡ true) (walked : x ≡ true) where
-        accepted : Differ w s.cells 0 × Differ w s.cells 1 → Judged w s used free (record { sound = true; free = r.free })
+        accepted : Differ w s.cells 0 × Differ w s.cells 1 → Judged w s used free (Some r.free)
         accepted d =
             record {
               exact = (
-                λ t.
-                    sounds (sym sized ∙ fits) (and-true (leb s.cells 4096) _ (sym seen.test ∙ keeps)).1
-                    (sym stack-walked ∙ walked) d,
+                λ t. sounds (sym sized ∙ fits) (and-true (leb s.cells 4096) _ (sym seen.test)).1 (sym stack-walked ∙ walked) d,
                 λ h. refl,
               );
-              count = seen.count keeps;
+              count = seen.count;
             }
 
-        pub accepted-tables : 1 ≤ r.left → Judged w s used free (record { sound = true; free = r.free })
-        accepted-tables h = accepted (seen.differ keeps h)
+        pub accepted-tables : 1 ≤ r.left → Judged w s used free (Some r.free)
+        accepted-tables h = accepted (seen.differ h)
 
-        pub accepted-differ : (b : Bool) → TellsApart w s b → b ≡ true → Judged w s used free (record { sound = true; free = r.free })
+        pub accepted-differ : (b : Bool) → TellsApart w s b → b ≡ true → Judged w s used free (Some r.free)
         accepted-differ b t e = accepted (t.differ e)
-
-  pub refused-differ : (v : Verdict) → v ≡ refusal → (b : Bool) → TellsApart w s b → b ≡ false → Judged w s used free v
-  refused-differ v q b t e = refused v q (λ h. clash (t.found h.most h.tickets h.orders) e)
 
 -- Whether the numbers differ, as the scattered tables tell it, and as the sort does.
 module _ (w : List ℕ) (s : Store) where
-  pub apart-tables : (used : ℕ) (r : Findings) → Swept w s.cells s.counter used r → r.sound ≡ true → 1 ≤ r.left
-      → TellsApart w s true
-  apart-tables used r seen e h = record { differ = λ t. seen.differ e h; found = λ m a b. refl }
-
   pub apart-sorted : (b : Bool) → b ≡ leb s.cells 4096 && differ_test w (used_below w s.cells) → TellsApart w s b
   apart-sorted b e =
       record {
         differ = λ t. (differ-rules w s.cells).0 (and-true (leb s.cells 4096) (differ_test w (used_below w s.cells)) (sym e ∙ t)).1;
         found = λ m x y. e ∙ rw (le-leb s.cells 4096 m) ((differ-rules w s.cells).1 (x, y));
       }
-
--- Sorting where there are few enough cells, and a no where there are not.
-pub few-sorted : (n : ℕ) (r t : Bool) → n ≤ 4096 → r ≡ t → r ≡ leb n 4096 && t
-few-sorted n r t h e = rw (le-leb n 4096 h) e
-
-pub many-sorted : (n : ℕ) (t : Bool) → 4096 < n → false ≡ leb n 4096 && t
-many-sorted n t h = rw (lt-leb n 4096 h)

@@ -9,6 +9,7 @@ use cell_sort::sort::{all_differ, sort};
 use cells::words::get;
 
 // Notes cell c at m if it is in use, and says where the next goes.
+#[tactic(auto, unfolding(cells::specs::Rules::in_use, cells::specs::Stack::is_free))]
 fn note(w: &[u64], c: u64, m: usize, a: &mut [u16]) -> usize
     requires { (c < 65536) × (m < length a.old) }
     ensures next { result ≡ cond (in_use w.now c) (m + 1) m }
@@ -27,11 +28,9 @@ fn gather(w: &[u64], n: u64, a: &mut [u16]) -> usize
     ensures count { result ≡ length (used_below w.now n) }
     ensures list { a.new ≡ used_below w.now n ++ drop result a.old }
 {
-    let mut c: u64 = 0;
-    let mut m: usize = 0;
-    while c < n {
+    let mut m = 0;
+    for c in 0..n {
         m = note(w, c, m, a);
-        c += 1;
     }
     m
 }
@@ -51,10 +50,7 @@ fn both_distinct(w: &[u64], a: &mut [u16], spare: &mut [u16]) -> bool
     requires { length a.old ≡ length spare.old }
     ensures { result ≡ differ_test w.now a.old }
 {
-    if distinct(w, 0, a, spare) {
-        return distinct(w, 1, a, spare);
-    }
-    false
+    distinct(w, 0, a, spare) && distinct(w, 1, a, spare)
 }
 
 // Whether the cells in use among the first n, noted in room for them, differ in both numbers.
@@ -81,8 +77,5 @@ fn few_differ(w: &[u64], n: u64) -> bool
 pub fn sorted_differ(w: &[u64], n: u64) -> bool
     ensures { result ≡ leb n 4096 && differ_test w.now (used_below w.now n) }
 {
-    if n <= 4096 {
-        return few_differ(w, n);
-    }
-    false
+    n <= 4096 && few_differ(w, n)
 }

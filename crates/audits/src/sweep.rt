@@ -22,119 +22,91 @@ const LARGE_SLOTS: usize = 8256;
 // How many steps past full slots the tables are given for each cell: more would cost what a sort costs.
 const STEPS: u64 = 4;
 
-// Whether the entries so far are sound, how many cells are free, and how many steps the tables have left: 0 where they gave up.
+// What is found of cells whose entries are sound: how many are free, and how many steps the tables have left, none where they gave up.
 #[derive(Clone, Copy)]
 pub struct Findings {
-    pub sound: bool,
     pub free: u64,
     pub left: u64,
 }
 
-// Goes over cell c.
-fn visit(
-    w: &[u64],
+// What one pass holds the cells to: the counter, the fields that an entry leaves unused, and the layout of the tables.
+#[derive(Clone, Copy)]
+struct Pass<'a> {
+    w: &'a [u64],
     counter: u64,
     used: u64,
-    c: u64,
     k: Layout,
-    s: Findings,
-    t: &mut [u16],
-    u: &mut [u16],
-) -> Findings
-    requires { (c < 4096) × (s.free ≤ c) }
-    ensures { Visits w.now counter used k c s t.old u.old result t.new u.new }
-{
-    if is_free(w, c) {
-        return Findings {
-            sound: true,
-            free: s.free + 1,
-            left: s.left,
-        };
-    }
-    if entry_sound(w, counter, used, c) {
-        return Findings {
-            sound: true,
+}
+
+impl Pass<'_> {
+    // Goes over cell c.
+    fn visit(&self, c: u64, s: Findings, t: &mut [u16], u: &mut [u16]) -> Option<Findings>
+        requires { (c < 4096) × (s.free ≤ c) }
+        ensures { Visits self.now.w.now self.now.counter self.now.used self.now.k c s t.old u.old result t.new u.new }
+    {
+        if is_free(self.w, c) {
+            return Some(Findings {
+                free: s.free + 1,
+                left: s.left,
+            });
+        }
+        if !entry_sound(self.w, self.counter, self.used, c) {
+            return None;
+        }
+        Some(Findings {
             free: s.free,
-            left: enter_both(w, c, k, t, u, s.left),
-        };
+            left: enter_both(self.w, c, self.k, t, u, s.left),
+        })
     }
-    Findings {
-        sound: false,
-        free: s.free,
-        left: 0,
+
+    // Goes over the first n cells, with tables that are empty.
+    fn sweep(&self, n: u64, t: &mut [u16], u: &mut [u16]) -> Option<Findings>
+        requires { n ≤ 4096 }
+        ensures { Swept self.now.w.now n self.now.counter self.now.used result }
+    {
+        let mut s = Findings {
+            free: 0,
+            left: n * STEPS + 1,
+        };
+        for c in 0..n {
+            s = self.visit(c, s, t, u)?;
+        }
+        Some(s)
     }
 }
 
-// Goes over the first n cells, with tables that are empty.
-fn sweep(
+// Goes over the first n cells with tables of so many slots.
+fn sweep_in<const SLOTS: usize>(
     w: &[u64],
     n: u64,
     counter: u64,
     used: u64,
-    k: Layout,
-    t: &mut [u16],
-    u: &mut [u16],
-) -> Findings
-    requires { n ≤ 4096 }
+    scattered: bool,
+) -> Option<Findings>
+    requires { (n ≤ 4096) × (SLOTS ≤ 8256) }
     ensures { Swept w.now n counter used result }
 {
-    let mut s = Findings {
-        sound: true,
-        free: 0,
-        left: n * STEPS + 1,
+    let mut t = [EMPTY; SLOTS];
+    let mut u = [EMPTY; SLOTS];
+    let small = SLOTS == SMALL_SLOTS;
+    let pass = Pass {
+        w,
+        counter,
+        used,
+        k: Layout { small, scattered },
     };
-    let mut c: u64 = 0;
-    while c < n {
-        s = visit(w, counter, used, c, k, s, t, u);
-        if !s.sound {
-            return s;
-        }
-        c += 1;
-    }
-    s
-}
-
-// Goes over the first n cells with small tables.
-fn sweep_few(w: &[u64], n: u64, counter: u64, used: u64, scattered: bool) -> Findings
-    requires { n ≤ 4096 }
-    ensures { Swept w.now n counter used result }
-{
-    let mut t = [EMPTY; SMALL_SLOTS];
-    let mut u = [EMPTY; SMALL_SLOTS];
-    let k = Layout {
-        small: true,
-        scattered,
-    };
-    sweep(w, n, counter, used, k, &mut t, &mut u)
-}
-
-// Goes over the first n cells with large tables.
-fn sweep_many(w: &[u64], n: u64, counter: u64, used: u64, scattered: bool) -> Findings
-    requires { n ≤ 4096 }
-    ensures { Swept w.now n counter used result }
-{
-    let mut t = [EMPTY; LARGE_SLOTS];
-    let mut u = [EMPTY; LARGE_SLOTS];
-    let k = Layout {
-        small: false,
-        scattered,
-    };
-    sweep(w, n, counter, used, k, &mut t, &mut u)
+    pass.sweep(n, &mut t, &mut u)
 }
 
 // Goes over the first n cells, with tables that are half full at most. More than 4,096 cells are not sound.
-pub fn swept(w: &[u64], n: u64, counter: u64, used: u64, scattered: bool) -> Findings
+pub fn swept(w: &[u64], n: u64, counter: u64, used: u64, scattered: bool) -> Option<Findings>
     ensures { Swept w.now n counter used result }
 {
     if n <= FEW {
-        return sweep_few(w, n, counter, used, scattered);
+        return sweep_in::<SMALL_SLOTS>(w, n, counter, used, scattered);
     }
     if n <= MOST {
-        return sweep_many(w, n, counter, used, scattered);
+        return sweep_in::<LARGE_SLOTS>(w, n, counter, used, scattered);
     }
-    Findings {
-        sound: false,
-        free: 0,
-        left: 0,
-    }
+    None
 }

@@ -35,6 +35,7 @@ const PER_SMALL_SLOT: u64 = 2097152;
 const PER_LARGE_SLOT: u64 = 262144;
 
 // A table of 1,024 slots, or of 8,192; and whether numbers are scattered over it, not only spread.
+// Two flags, each asked for by itself: two enums would only give their values other names.
 #[derive(Clone, Copy)]
 pub struct Layout {
     pub small: bool,
@@ -43,6 +44,7 @@ pub struct Layout {
 
 // A number spread over 31 bits by the golden ratio: numbers that follow each other fall far apart, and of as many as a table is to hold no
 // two fall into one slot. What lies above 32 bits is added, so that the product fits.
+#[tactic(auto, unfolding(crate::specs::Tables::evenly))]
 fn evenly(key: u64) -> u64
     ensures { result ≡ evenly_of key }
 {
@@ -51,6 +53,7 @@ fn evenly(key: u64) -> u64
 
 // A spread number scattered by the product of its halves: numbers at equal distances, which the spread alone may crowd, fall as if by
 // chance.
+#[tactic(auto, unfolding(crate::specs::Tables::scattered))]
 fn scatter(x: u64) -> u64
     ensures { result ≡ scattered_of x }
 {
@@ -58,23 +61,28 @@ fn scatter(x: u64) -> u64
 }
 
 // A number as it is laid out over 31 bits.
+#[tactic(auto, unfolding(crate::specs::Tables::spread_of))]
 fn spread(k: Layout, key: u64) -> u64
     ensures { result ≡ spread_of k key }
 {
     if k.scattered {
-        return scatter(evenly(key));
+        scatter(evenly(key))
+    } else {
+        evenly(key)
     }
-    evenly(key)
 }
 
-// The slot at which a look for this number begins.
+// The slot at which a look for this number begins. Each size spreads and divides for itself: chosen first, the divisor costs time at every
+// cell.
+#[tactic(auto, unfolding(crate::specs::Tables::start_of))]
 fn start(k: Layout, key: u64) -> usize
     ensures { result ≡ start_of k key }
 {
     if k.small {
-        return (spread(k, key) / PER_SMALL_SLOT) as usize;
+        (spread(k, key) / PER_SMALL_SLOT) as usize
+    } else {
+        (spread(k, key) / PER_LARGE_SLOT) as usize
     }
-    (spread(k, key) / PER_LARGE_SLOT) as usize
 }
 
 // Puts cell c, whose number is the key, into the first empty slot from slot i on, and says how many of the steps are left. It gives up, and
@@ -83,10 +91,9 @@ fn look_on(w: &[u64], f: u64, c: u64, key: u64, from: usize, t: &mut [u16], left
     requires { c < 4096 }
     ensures { Looks w.now f c key from t.old left result t.new }
 {
-    let mut i = from;
     let mut rest = left;
-    while rest > 0 {
-        if i >= t.len() {
+    for i in from..t.len() {
+        if rest == 0 {
             return 0;
         }
         let d = t[i];
@@ -97,7 +104,6 @@ fn look_on(w: &[u64], f: u64, c: u64, key: u64, from: usize, t: &mut [u16], left
         if word_of(w, d, f) == key {
             return 0;
         }
-        i += 1;
         rest -= 1;
     }
     0
@@ -110,18 +116,15 @@ fn enter(w: &[u64], f: u64, c: u64, k: Layout, t: &mut [u16], left: u64) -> u64
 {
     let key = get(w, c, f);
     let i = start(k, key);
-    if i < t.len() {
-        let d = t[i];
-        if d == EMPTY {
-            t[i] = c as u16;
-            return left;
-        }
+    if i < t.len() && t[i] == EMPTY {
+        t[i] = c as u16;
+        return left;
     }
     look_on(w, f, c, key, i, t, left)
 }
 
 // Puts cell c, one in use, into a table by its ticket and into another by its order number, and says how many of the steps are left: 0
-// where one gives up.
+// where one gives up. A number and no Option: that no step is left is what giving up is, and the next look asks for it anyway.
 pub fn enter_both(w: &[u64], c: u64, k: Layout, t: &mut [u16], u: &mut [u16], left: u64) -> u64
     ensures { EntersBoth w.now k c t.old u.old left result t.new u.new }
 {

@@ -5,7 +5,7 @@ use mathlib.Core.Bool.{true, false}
 use mathlib.Core.List.{List}
 use mathlib.Core.Path.{◌≡◌}
 use lib.Dec.{eqb}
-use borrow.Author.Tests.{eq-eqb, ne_eqb, lt-ltb, le-ltb, le-leb, lt-leb}
+use borrow.Author.Tests.{eq-eqb, ne_eqb, lt-ltb, le-ltb}
 use Rattle.cells.specs.Words.{word}
 use Rattle.cells.specs.Store.{
   no_free,
@@ -19,8 +19,8 @@ use Rattle.cells.specs.Store.{
   entered,
 }
 use Rattle.cells.specs.declared.store.Store.{Store}
-use Rattle.cells.specs.declared.store.DrawAnswer.TheVariants as draw
-use Rattle.cells.specs.declared.store.ClaimAnswer.TheVariants as claim
+use Rattle.std.specs.Prelude.{Ok, Err}
+use Rattle.cells.specs.declared.refusal.Refusal.TheVariants as refusal
 
 module _ (w : List ℕ) (s : Store) (c k : ℕ) where
   pub handle-past : s.cells ≤ c → holds_ticket w s c k ≡ false
@@ -36,49 +36,33 @@ module _ (w : List ℕ) (s : Store) (c k : ℕ) where
   handle-used h d = rw (lt-ltb c s.cells h, ne_eqb (word w c 0) 0 d)
 
 module _ (s : Store) where
-  pub spent-yes : s.counter ≡ 18446744073709551615 → spent s ≡ true
-  unfolding spent
-  spent-yes e = eq-eqb s.counter 18446744073709551615 e
-
-  pub spent-no : (s.counter ≡ 18446744073709551615 → ⊥) → spent s ≡ false
-  unfolding spent
-  spent-no d = ne_eqb s.counter 18446744073709551615 d
-
-  pub free-none : s.cells ≤ s.free → no_free s ≡ true
-  unfolding no_free
-  free-none h = le-leb s.cells s.free h
-
-  pub free-some : s.free < s.cells → no_free s ≡ false
-  unfolding no_free
-  free-some h = lt-leb s.cells s.free h
-
   -- A draw is refused, or gives the counter's value.
-  pub draw-spent : spent s ≡ true → (draw_answer s ≡ draw.Refused 8) × (draw_store s ≡ s)
+  pub draw-spent : spent s ≡ true → (draw_answer s ≡ Err refusal.Spent) × (draw_store s ≡ s)
   unfolding draw_answer draw_store
   draw-spent e = (rw e, rw e)
 
   pub draw-taken :
       spent s ≡ false
-      → (draw_answer s ≡ draw.Number s.counter)
+      → (draw_answer s ≡ Ok s.counter)
       × (draw_store s ≡ record { cells = s.cells; free = s.free; counter = s.counter + 1 })
   unfolding draw_answer draw_store
   draw-taken e = (rw e, rw e)
 
 -- A claim is refused for want of a cell, then of a number, or takes the top.
 module _ (w : List ℕ) (s : Store) (key load : ℕ) where
-  pub claim-full : no_free s ≡ true → (claim_answer s ≡ claim.Refused 6) × (claim_store w s ≡ s) × (claim_words w s key load ≡ w)
+  pub claim-full : no_free s ≡ true → (claim_answer s ≡ Err refusal.Full) × (claim_store w s ≡ s) × (claim_words w s key load ≡ w)
   unfolding claim_answer claim_store claim_words
   claim-full e = (rw e, rw e, rw e)
 
   pub claim-spent :
-      no_free s ≡ false → spent s ≡ true → (claim_answer s ≡ claim.Refused 8) × (claim_store w s ≡ s) × (claim_words w s key load ≡ w)
+      no_free s ≡ false → spent s ≡ true → (claim_answer s ≡ Err refusal.Spent) × (claim_store w s ≡ s) × (claim_words w s key load ≡ w)
   unfolding claim_answer claim_store claim_words
   claim-spent e e' = (rw (e, e'), rw (e, e'), rw (e, e'))
 
   pub claim-taken :
       no_free s ≡ false
       → spent s ≡ false
-      → (claim_answer s ≡ claim.Taken s.free s.counter)
+      → (claim_answer s ≡ Ok (record { cell = s.free; ticket = s.counter }))
       × (claim_store w s ≡ record { cells = s.cells; free = word w s.free 4; counter = s.counter + 1 })
       × (claim_words w s key load ≡ entered w s.free s.counter key load)
   unfolding claim_answer claim_store claim_words

@@ -14,7 +14,8 @@ use Rattle.cells.proofs.Cases.{test}
 use Rattle.cells.proofs.Memory.{word_in}
 use Rattle.cells.specs.Words.{word}
 use Rattle.cells.specs.Store.{wrong_size, memory, fresh_word, fresh_link, fresh_words, set_up_words, set_up_answer}
-use Rattle.cells.specs.declared.store.SetUp.TheVariants as set_up
+use Rattle.std.specs.Prelude.{Ok, Err}
+use Rattle.cells.specs.declared.refusal.Refusal.TheVariants as refusal
 
 -- A size that is none, one that is too large, and one that will do.
 pub size_none : (n : ℕ) → n ≡ 0 → wrong_size n ≡ true
@@ -130,13 +131,13 @@ module _ (w : List ℕ) where
           ∙ ap (λ (e : ℕ). fresh_word n c e) (omega arith)
 
   -- Set-up at a wrong size, and at a right one.
-  pub set-up-wrong : wrong_size (length w / 8) ≡ true → (set_up_answer w ≡ set_up.Refused 1) × (set_up_words w ≡ w)
+  pub set-up-wrong : wrong_size (length w / 8) ≡ true → (set_up_answer w ≡ Err refusal.BadSize) × (set_up_words w ≡ w)
   unfolding set_up_answer set_up_words
   set-up-wrong e = (rw e, rw e)
 
   pub set-up-right :
       wrong_size (length w / 8) ≡ false
-      → (set_up_answer w ≡ set_up.Ready (record { cells = length w / 8; free = 0; counter = 1 })) × (set_up_words w ≡ fresh_words w)
+      → (set_up_answer w ≡ Ok (record { cells = length w / 8; free = 0; counter = 1 })) × (set_up_words w ≡ fresh_words w)
   unfolding set_up_answer set_up_words
   set-up-right e = (rw e, rw e)
 

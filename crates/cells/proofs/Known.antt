@@ -28,12 +28,15 @@ use Rattle.cells.specs.Store.{
   release_store,
 }
 use Rattle.cells.specs.declared.store.Store.{Store}
-use Rattle.cells.specs.declared.store.SetUp.TheVariants as set_up
-use Rattle.cells.specs.declared.store.DrawAnswer.TheVariants as draw
-use Rattle.cells.specs.declared.store.ClaimAnswer.TheVariants as claim
+use Rattle.std.specs.Prelude.{Ok, Err}
+use Rattle.cells.specs.declared.store.Handle.{Handle}
+use Rattle.cells.specs.declared.refusal.Refusal.TheVariants as refusal
 
 store : ℕ → ℕ → ℕ → Store
 store n top counter = record { cells = n; free = top; counter = counter }
+
+handle : ℕ → ℕ → Handle
+handle c k = record { cell = c; ticket = k }
 
 -- Three fresh cells, and two words that belong to none.
 fresh : List ℕ
@@ -63,11 +66,11 @@ set-up-words : set_up_words (replicate 26 9) ≡ fresh
 unfolding set_up_words wrong_size fresh_words memory fresh_word fresh_link fresh
 set-up-words = refl
 
-set-up-answer : set_up_answer (replicate 26 9) ≡ set_up.Ready (store 3 0 1)
+set-up-answer : set_up_answer (replicate 26 9) ≡ Ok (store 3 0 1)
 unfolding set_up_answer wrong_size store
 set-up-answer = refl
 
-set-up-too-small : set_up_answer (replicate 7 9) ≡ set_up.Refused 1
+set-up-too-small : set_up_answer (replicate 7 9) ≡ Err refusal.BadSize
 unfolding set_up_answer wrong_size
 set-up-too-small = refl
 
@@ -80,11 +83,11 @@ unfolding claim_words claim_store no_free spent entered word put_word fresh used
 two-claims = refl
 
 claim-answers :
-    (claim_answer (store 3 1 2) ≡ claim.Taken 1 2)
-    × (claim_answer (store 3 4096 18446744073709551615) ≡ claim.Refused 6)
-    × (claim_answer (store 3 2 18446744073709551615) ≡ claim.Refused 8)
-    × (claim_answer (store 3 2 18446744073709551614) ≡ claim.Taken 2 18446744073709551614)
-unfolding claim_answer no_free spent store
+    (claim_answer (store 3 1 2) ≡ Ok (handle 1 2))
+    × (claim_answer (store 3 4096 18446744073709551615) ≡ Err refusal.Full)
+    × (claim_answer (store 3 2 18446744073709551615) ≡ Err refusal.Spent)
+    × (claim_answer (store 3 2 18446744073709551614) ≡ Ok (handle 2 18446744073709551614))
+unfolding claim_answer no_free spent store handle
 claim-answers = (refl, refl, refl, refl)
 
 claim-stores :
@@ -112,9 +115,9 @@ unfolding holds_ticket word used store
 handles = (refl, refl, refl, refl)
 
 draws :
-    (draw_answer (store 3 1 5) ≡ draw.Number 5)
+    (draw_answer (store 3 1 5) ≡ Ok 5)
     × (draw_store (store 3 1 5) ≡ store 3 1 6)
-    × (draw_answer (store 3 1 18446744073709551615) ≡ draw.Refused 8)
+    × (draw_answer (store 3 1 18446744073709551615) ≡ Err refusal.Spent)
     × (draw_store (store 3 1 18446744073709551615) ≡ store 3 1 18446744073709551615)
 unfolding draw_answer draw_store spent store
 draws = (refl, refl, refl, refl)

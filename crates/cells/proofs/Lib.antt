@@ -1,4 +1,5 @@
 -- General laws that every crate cites, and the cell store's.
+pub mod Causes
 pub mod Cases
 pub mod Lists
 pub mod Sums

@@ -158,15 +158,6 @@ module _ (w : List ℕ) (n : ℕ) (also : ℕ → Bool) (top : ℕ) (small : n �
   pub stack_test-exactly : (stack_test w n also top ≡ true) ↔ (StackRule w n top × ((c : ℕ) → c < n → is_free w c ≡ true → also c ≡ true))
   stack_test-exactly = (λ e. (stack_test-stack e, stack_test-also e), λ r. stack_test-found r.0 r.1)
 
--- The steps of the code: one cell is tested, one cell more is counted.
-pub stands-below : (w : List ℕ) (n c : ℕ) → c < n → stands w n c ≡ is_free w c
-unfolding stands
-stands-below w n c h = rw (lt-ltb c n h)
-
-pub stands-past : (w : List ℕ) (n c : ℕ) → n ≤ c → stands w n c ≡ false
-unfolding stands
-stands-past w n c h = rw (le-ltb c n h)
-
 pub counts-free : (w : List ℕ) (c count : ℕ) → count ≡ frees w c → is_free w c ≡ true → count + 1 ≡ frees w (c + 1)
 unfolding frees sum_below
 counts-free w c count h e = rw (h, add-one c, e)

@@ -1,14 +1,11 @@
 -- The cell store over lent words: set-up, handles, the counter and the free stack, each answer and every word told by a definition.
 -- Assumes nothing.
-use Rattle.std.specs.Prelude.{ℕ, zero, suc, ◌+◌, ◌*◌, ◌/◌, Bool, cond, not, ◌&&◌, ◌||◌, List, [], ◌∷◌, ◌++◌, length, drop, leb, ltb, eqb}
+use Rattle.std.specs.Prelude.{ℕ, zero, suc, ◌+◌, ◌*◌, ◌/◌, Bool, cond, not, ◌&&◌, ◌||◌, List, [], ◌∷◌, ◌++◌, length, drop, leb, ltb, eqb, Result, Ok, Err}
 use Rattle.cells.specs.Words.{word, put_word}
 use Rattle.cells.specs.declared.store.Store.{Store}
-use Rattle.cells.specs.declared.store.SetUp.{SetUp}
-use Rattle.cells.specs.declared.store.SetUp.TheVariants as set_up
-use Rattle.cells.specs.declared.store.DrawAnswer.{DrawAnswer}
-use Rattle.cells.specs.declared.store.DrawAnswer.TheVariants as draw
-use Rattle.cells.specs.declared.store.ClaimAnswer.{ClaimAnswer}
-use Rattle.cells.specs.declared.store.ClaimAnswer.TheVariants as claim
+use Rattle.cells.specs.declared.store.Handle.{Handle}
+use Rattle.cells.specs.declared.refusal.Refusal.{Refusal}
+use Rattle.cells.specs.declared.refusal.Refusal.TheVariants as refusal
 
 -- 1: "set-up: N is 0 or above 4,096"
 unfoldable pub wrong_size : ℕ → Bool
@@ -45,25 +42,26 @@ unfoldable pub set_up_words : List ℕ → List ℕ
 set_up_words w = cond (wrong_size (length w / 8)) w (fresh_words w)
 
 -- "With L words there are N = floor(L/8) cells"; "A counter starts at 1"; "cell 0 is on top".
-unfoldable pub set_up_answer : List ℕ → SetUp
+unfoldable pub set_up_answer : List ℕ → Result Store Refusal
 set_up_answer w =
-    cond (wrong_size (length w / 8)) (set_up.Refused 1) (set_up.Ready (record { cells = length w / 8; free = 0; counter = 1 }))
+    cond (wrong_size (length w / 8)) (Err refusal.BadSize) (Ok (record { cells = length w / 8; free = 0; counter = 1 }))
 
 -- "It names an entry exactly if the cell is less than N, is in use, and holds that ticket."
 unfoldable pub holds_ticket : List ℕ → Store → ℕ → ℕ → Bool
 holds_ticket w s c k = ltb c s.cells && not (eqb (word w c 0) 0) && eqb (word w c 0) k
 
 -- "takes a fresh order number in the same way"
-unfoldable pub draw_answer : Store → DrawAnswer
-draw_answer s = cond (spent s) (draw.Refused 8) (draw.Number s.counter)
+unfoldable pub draw_answer : Store → Result ℕ Refusal
+draw_answer s = cond (spent s) (Err refusal.Spent) (Ok s.counter)
 
 -- "raises the counter by 1"
 unfoldable pub draw_store : Store → Store
 draw_store s = cond (spent s) s (record { cells = s.cells; free = s.free; counter = s.counter + 1 })
 
 -- "Put: 9, 6, 8", and arm alike; "An arm or put takes the top", with "the counter's value" as its ticket.
-unfoldable pub claim_answer : Store → ClaimAnswer
-claim_answer s = cond (no_free s) (claim.Refused 6) (cond (spent s) (claim.Refused 8) (claim.Taken s.free s.counter))
+unfoldable pub claim_answer : Store → Result Handle Refusal
+claim_answer s =
+    cond (no_free s) (Err refusal.Full) (cond (spent s) (Err refusal.Spent) (Ok (record { cell = s.free; ticket = s.counter })))
 
 -- "An arm or put takes the top" and "raises the counter by 1"; "A refusal hands back the head unchanged".
 unfoldable pub claim_store : List ℕ → Store → Store

@@ -18,6 +18,7 @@ ghost use Rattle.cells.specs.Store.{
   release_store,
 };
 
+use crate::refusal::Refusal;
 use crate::words::{get, put};
 
 // The number of cells, the top of the free stack or 4096 where it is empty, and the counter.
@@ -28,38 +29,15 @@ pub struct Store {
     pub counter: u64,
 }
 
-#[derive(Clone, Copy)]
-pub enum SetUp {
-    Refused(u64),
-    Ready(Store),
-}
-
-#[derive(Clone, Copy)]
-pub enum DrawAnswer {
-    Refused(u64),
-    Number(u64),
-}
-
-#[derive(Clone, Copy)]
-pub struct Drawn {
-    pub answer: DrawAnswer,
-    pub store: Store,
-}
-
-// Taken holds the cell and the ticket: a handle.
-#[derive(Clone, Copy)]
-pub enum ClaimAnswer {
-    Refused(u64),
-    Taken(u64, u64),
-}
-
-#[derive(Clone, Copy)]
-pub struct Claimed {
-    pub answer: ClaimAnswer,
-    pub store: Store,
+// What names an entry: its cell and its ticket.
+#[derive(Clone, Copy, PartialEq, Eq)]
+pub struct Handle {
+    pub cell: u64,
+    pub ticket: u64,
 }
 
 // Word j of fresh memory of n cells: each cell links to the next, the last to none.
+#[tactic(auto, unfolding(crate::specs::Store::fresh_word, crate::specs::Store::fresh_link))]
 fn fresh_word(n: u64, j: u64) -> u64
     ensures { result ≡ fresh_word n (j / 8) (j % 8) }
 {
@@ -78,70 +56,31 @@ fn write_fresh(w: &mut [u64])
     ensures { w.new ≡ fresh_words w.old }
 {
     let n = w.len() / 8;
-    let mut j = 0;
-    while j < n * 8 {
+    for j in 0..n * 8 {
         w[j] = fresh_word(n as u64, j as u64);
-        j += 1;
     }
 }
 
-// Sets a store up in the lent words, refused with 1 unless there are 1 to 4096 cells.
-pub fn set_up(w: &mut [u64]) -> SetUp
+// Sets a store up in the lent words, refused unless there are 1 to 4096 cells.
+#[tactic(auto, unfolding(crate::specs::Store::set_up_answer, crate::specs::Store::set_up_words, crate::specs::Store::wrong_size))]
+pub fn set_up(w: &mut [u64]) -> Result<Store, Refusal>
     ensures answer { result ≡ set_up_answer w.old }
     ensures words { w.new ≡ set_up_words w.old }
 {
     let n = w.len() / 8;
-    if n == 0 {
-        return SetUp::Refused(1);
-    }
-    if n > 4096 {
-        return SetUp::Refused(1);
+    if n == 0 || n > 4096 {
+        return Err(Refusal::BadSize);
     }
     write_fresh(w);
-    SetUp::Ready(Store {
+    Ok(Store {
         cells: n as u64,
         free: 0,
         counter: 1,
     })
 }
 
-// Whether the handle (c, k) names an entry.
-pub fn names(w: &[u64], s: Store, c: u64, k: u64) -> bool
-    ensures { result ≡ holds_ticket w.now s c k }
-{
-    if c >= s.cells {
-        return false;
-    }
-    let ticket = get(w, c, 0);
-    if ticket == 0 {
-        return false;
-    }
-    ticket == k
-}
-
-// Takes a number from the counter, refused with 8 once the counter is spent.
-pub fn draw(s: Store) -> Drawn
-    ensures answer { result.answer ≡ draw_answer s }
-    ensures store { result.store ≡ draw_store s }
-{
-    let number = s.counter;
-    if number == 18446744073709551615 {
-        return Drawn {
-            answer: DrawAnswer::Refused(8),
-            store: s,
-        };
-    }
-    Drawn {
-        answer: DrawAnswer::Number(number),
-        store: Store {
-            cells: s.cells,
-            free: s.free,
-            counter: number + 1,
-        },
-    }
-}
-
 // Writes a new entry's words into cell c; its link word is 0 until an engine puts it into a list.
+#[tactic(auto, unfolding(crate::specs::Store::entered))]
 fn enter(w: &mut [u64], c: u64, k: u64, key: u64, load: u64)
     ensures { w.new ≡ entered w.old c k key load }
 {
@@ -152,39 +91,8 @@ fn enter(w: &mut [u64], c: u64, k: u64, key: u64, load: u64)
     put(w, c, 4, 0);
 }
 
-// Takes the top free cell for an entry, refused with 6 where none is free, then with 8 once the counter is spent.
-pub fn claim(w: &mut [u64], s: Store, key: u64, load: u64) -> Claimed
-    ensures answer { result.answer ≡ claim_answer s }
-    ensures store { result.store ≡ claim_store w.old s }
-    ensures words { w.new ≡ claim_words w.old s key load }
-{
-    let top = s.free;
-    let k = s.counter;
-    if top >= s.cells {
-        return Claimed {
-            answer: ClaimAnswer::Refused(6),
-            store: s,
-        };
-    }
-    if k == 18446744073709551615 {
-        return Claimed {
-            answer: ClaimAnswer::Refused(8),
-            store: s,
-        };
-    }
-    let below = get(w, top, 4);
-    enter(w, top, k, key, load);
-    Claimed {
-        answer: ClaimAnswer::Taken(top, k),
-        store: Store {
-            cells: s.cells,
-            free: below,
-            counter: k + 1,
-        },
-    }
-}
-
 // Clears the words that told of the entry of cell c.
+#[tactic(auto, unfolding(crate::specs::Store::wiped))]
 fn wipe(w: &mut [u64], c: u64)
     ensures { w.new ≡ wiped w.old c }
 {
@@ -194,18 +102,57 @@ fn wipe(w: &mut [u64], c: u64)
     put(w, c, 3, 0);
 }
 
-// Puts cell c on top of the free stack. Word 6 is left: it is the queue's position table, and none of the cell's own.
-pub fn release(w: &mut [u64], s: Store, c: u64) -> Store
-    ensures store { result ≡ release_store s c }
-    ensures words { w.new ≡ release_words w.old s c }
-{
-    wipe(w, c);
-    put(w, c, 5, 0);
-    put(w, c, 7, 0);
-    put(w, c, 4, s.free);
-    Store {
-        cells: s.cells,
-        free: c,
-        counter: s.counter,
+impl Store {
+    // Whether the handle names an entry.
+    #[tactic(auto, unfolding(crate::specs::Store::holds_ticket))]
+    pub fn names(&self, w: &[u64], at: Handle) -> bool
+        ensures { result ≡ holds_ticket w.now self.now at.cell at.ticket }
+    {
+        let ticket = get(w, at.cell, 0);
+        at.cell < self.cells && ticket != 0 && ticket == at.ticket
+    }
+
+    // Takes a number from the counter, refused once the counter is spent.
+    #[tactic(auto, unfolding(crate::specs::Store::draw_answer, crate::specs::Store::draw_store, crate::specs::Store::spent))]
+    pub fn draw(&mut self) -> Result<u64, Refusal>
+        ensures answer { result ≡ draw_answer self.old }
+        ensures store { self.new ≡ draw_store self.old }
+    {
+        let number = self.counter;
+        if number == 18446744073709551615 {
+            return Err(Refusal::Spent);
+        }
+        self.counter = number + 1;
+        Ok(number)
+    }
+
+    // Takes the top free cell for an entry, refused where none is free, then once the counter is spent.
+    #[tactic(auto, unfolding(crate::specs::Store::claim_answer, crate::specs::Store::claim_store, crate::specs::Store::claim_words, crate::specs::Store::no_free, crate::specs::Store::draw_answer, crate::specs::Store::draw_store, crate::specs::Store::spent))]
+    pub fn claim(&mut self, w: &mut [u64], key: u64, load: u64) -> Result<Handle, Refusal>
+        ensures answer { result ≡ claim_answer self.old }
+        ensures store { self.new ≡ claim_store w.old self.old }
+        ensures words { w.new ≡ claim_words w.old self.old key load }
+    {
+        let top = self.free;
+        if top >= self.cells {
+            return Err(Refusal::Full);
+        }
+        let ticket = self.draw()?;
+        self.free = get(w, top, 4);
+        enter(w, top, ticket, key, load);
+        Ok(Handle { cell: top, ticket })
+    }
+
+    // Puts cell c on top of the free stack. Word 6 is left: it is the queue's position table, and none of the cell's own.
+    #[tactic(auto, unfolding(crate::specs::Store::release_store, crate::specs::Store::release_words))]
+    pub fn release(&mut self, w: &mut [u64], c: u64)
+        ensures store { self.new ≡ release_store self.old c }
+        ensures words { w.new ≡ release_words w.old self.old c }
+    {
+        wipe(w, c);
+        put(w, c, 5, 0);
+        put(w, c, 7, 0);
+        put(w, c, 4, self.free);
+        self.free = c;
     }
 }

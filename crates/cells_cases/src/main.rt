@@ -2,7 +2,7 @@
 #![tactic(auto)]
 
 use audits::audit::audit;
-use cells::store::{SetUp, Store, claim, release, set_up};
+use cells::store::{Store, set_up};
 use cells::words::put;
 use script::console::write_all;
 use std::io::Stdout;
@@ -12,132 +12,171 @@ const USED: u64 = 240;
 
 const FREE: u64 = 239;
 
-fn none() -> Store {
-    Store {
-        cells: 0,
-        free: 4096,
-        counter: 0,
+// What is done to the memory of a store, or to its head.
+#[derive(Clone, Copy)]
+enum Change {
+    // One word of one cell is set to a value.
+    Word(u64, u64, u64),
+    // The head says other cells, another top and another counter.
+    Head(u64, u64, u64),
+    // The last words, which belong to no cell, hold anything.
+    Tail,
+}
+
+// A change, by name.
+#[derive(Clone, Copy)]
+struct Case<'a> {
+    name: &'a [u8],
+    change: Change,
+}
+
+fn word(name: &[u8], cell: u64, field: u64, value: u64) -> Case<'_> {
+    Case {
+        name,
+        change: Change::Word(cell, field, value),
     }
 }
 
-// Three entries, the second given back.
-fn fill(w: &mut [u64], fresh: Store) -> Store {
-    let first = claim(w, fresh, 5, 50);
-    let second = claim(w, first.store, 3, 30);
-    let third = claim(w, second.store, 9, 90);
-    release(w, third.store, 1)
+fn head(name: &[u8], cells: u64, free: u64, counter: u64) -> Case<'_> {
+    Case {
+        name,
+        change: Change::Head(cells, free, counter),
+    }
 }
 
-// Four cells: 0 and 2 in use with tickets 1 and 3, then 1 on top of 3 in the free stack.
+fn tail(name: &[u8]) -> Case<'_> {
+    Case {
+        name,
+        change: Change::Tail,
+    }
+}
+
+// Four cells: 0 and 2 in use with tickets 1 and 3, then 1, which was in use, on top of 3 in the free stack.
 fn build(w: &mut [u64]) -> Store {
-    let SetUp::Ready(fresh) = set_up(w) else {
-        return none();
+    let Ok(mut store) = set_up(w) else {
+        return Store {
+            cells: 0,
+            free: 4096,
+            counter: 0,
+        };
     };
-    fill(w, fresh)
-}
-
-fn say(mut output: Stdout, name: &[u8], ok: bool) {
-    write_all(&mut output, name);
-    if ok {
-        write_all(&mut output, b": yes\n");
-    } else {
-        write_all(&mut output, b": no\n");
+    for (key, load) in [(5, 50), (3, 30), (9, 90)] {
+        let _ = store.claim(w, key, load);
     }
+    store.release(w, 1);
+    store
 }
 
-// One word of one cell is set to a value.
-fn word(output: Stdout, name: &[u8], c: u64, f: u64, v: u64) {
-    let mut w = [0u64; 35];
-    let s = build(&mut w);
-    put(&mut w, c, f, v);
-    say(output, name, audit(&w, s, USED, FREE));
+// The audit's verdict on that store after a change.
+fn verdict(change: Change) -> bool {
+    let fill = if let Change::Tail = change { 7 } else { 0 };
+    let mut w = [fill; 35];
+    let mut store = build(&mut w);
+    match change {
+        Change::Word(cell, field, value) => put(&mut w, cell, field, value),
+        Change::Head(cells, free, counter) => {
+            store = Store {
+                cells,
+                free,
+                counter,
+            };
+        }
+        Change::Tail => {}
+    }
+    audit(&w, store, USED, FREE)
 }
 
-// The head says something else.
-fn head(output: Stdout, name: &[u8], cells: u64, free: u64, counter: u64) {
-    let mut w = [0u64; 35];
-    build(&mut w);
-    let s = Store {
-        cells,
-        free,
-        counter,
-    };
-    say(output, name, audit(&w, s, USED, FREE));
+fn say(mut output: Stdout, name: &[u8], answer: &[u8]) {
+    write_all(&mut output, name);
+    write_all(&mut output, b": ");
+    write_all(&mut output, answer);
+    write_all(&mut output, b"\n");
 }
 
-// The last words, which belong to no cell, hold anything.
-fn tail(output: Stdout, name: &[u8]) {
-    let mut w = [7u64; 35];
-    let s = build(&mut w);
-    say(output, name, audit(&w, s, USED, FREE));
+fn yes_or_no(ok: bool) -> &'static [u8] {
+    if ok { b"yes" } else { b"no" }
 }
 
 // A store of its own in lent words that hold anything.
-fn fresh(mut output: Stdout, name: &[u8], w: &mut [u64]) {
-    match set_up(w) {
-        SetUp::Refused(_) => {
-            write_all(&mut output, name);
-            write_all(&mut output, b": refused 1\n");
-        }
-        SetUp::Ready(s) => say(output, name, audit(w, s, USED, FREE)),
-    }
+fn fresh(output: Stdout, name: &[u8], w: &mut [u64]) {
+    let answer = match set_up(w) {
+        Err(_) => b"refused 1",
+        Ok(store) => yes_or_no(audit(w, store, USED, FREE)),
+    };
+    say(output, name, answer);
 }
 
 fn sizes(output: Stdout) {
-    let mut none = [5u64; 7];
-    fresh(output, b"set-up in 7 words", &mut none);
-    let mut one = [5u64; 8];
-    fresh(output, b"set-up in 8 words", &mut one);
-    let mut nine = [5u64; 79];
-    fresh(output, b"set-up in 79 words", &mut nine);
+    fresh(output, b"set-up in 7 words", &mut [5; 7]);
+    fresh(output, b"set-up in 8 words", &mut [5; 8]);
+    fresh(output, b"set-up in 79 words", &mut [5; 79]);
+}
+
+fn tell(output: Stdout, cases: &[Case]) {
+    for case in cases {
+        say(output, case.name, yes_or_no(verdict(case.change)));
+    }
 }
 
 fn sound(output: Stdout) {
-    word(output, b"as calls left it", 0, 0, 1);
-    word(output, b"any load", 0, 3, 18446744073709551615);
-    word(output, b"any key", 2, 2, 18446744073709551615);
-    word(output, b"a write past the cells", 4, 0, 9);
-    word(output, b"a write past the fields", 0, 8, 9);
-    tail(output, b"any words behind the cells");
-    head(output, b"a counter far on", 4, 1, 18446744073709551615);
+    let cases = [
+        word(b"as calls left it", 0, 0, 1),
+        word(b"any load", 0, 3, u64::MAX),
+        word(b"any key", 2, 2, u64::MAX),
+        word(b"a write past the cells", 4, 0, 9),
+        word(b"a write past the fields", 0, 8, 9),
+        tail(b"any words behind the cells"),
+        head(b"a counter far on", 4, 1, u64::MAX),
+    ];
+    tell(output, &cases);
 }
 
 fn stacks(output: Stdout) {
-    word(output, b"a cycle in the free stack", 3, 4, 1);
-    word(output, b"a link to itself", 1, 4, 1);
-    word(output, b"a link just past the cells", 3, 4, 4);
-    word(output, b"a link out of range", 3, 4, 5000);
-    word(output, b"a link to a cell in use", 3, 4, 2);
-    word(output, b"a free cell left out", 1, 4, 4096);
-    word(output, b"a cell both free and in use", 1, 0, 4);
-    head(output, b"a top that skips a free cell", 4, 3, 4);
-    head(output, b"no top", 4, 4096, 4);
+    let cases = [
+        word(b"a cycle in the free stack", 3, 4, 1),
+        word(b"a link to itself", 1, 4, 1),
+        word(b"a link just past the cells", 3, 4, 4),
+        word(b"a link out of range", 3, 4, 5000),
+        word(b"a link to a cell in use", 3, 4, 2),
+        word(b"a free cell left out", 1, 4, 4096),
+        word(b"a cell both free and in use", 1, 0, 4),
+        head(b"a top that skips a free cell", 4, 3, 4),
+        head(b"no top", 4, 4096, 4),
+    ];
+    tell(output, &cases);
 }
 
 fn numbers(output: Stdout) {
-    word(output, b"equal tickets", 2, 0, 1);
-    word(output, b"equal order numbers", 0, 1, 3);
-    word(output, b"a ticket above its order number", 2, 0, 4);
-    word(output, b"an order number at the counter", 2, 1, 4);
-    word(output, b"a cell in use without ticket", 2, 0, 0);
-    head(output, b"a counter at an order number", 4, 1, 3);
-    head(output, b"a counter of 0", 4, 1, 0);
+    let cases = [
+        word(b"equal tickets", 2, 0, 1),
+        word(b"equal order numbers", 0, 1, 3),
+        word(b"a ticket above its order number", 2, 0, 4),
+        word(b"an order number at the counter", 2, 1, 4),
+        word(b"a cell in use without ticket", 2, 0, 0),
+        head(b"a counter at an order number", 4, 1, 3),
+        head(b"a counter of 0", 4, 1, 0),
+    ];
+    tell(output, &cases);
 }
 
 fn strays(output: Stdout) {
-    word(output, b"a stray word in a cell in use", 0, 7, 1);
-    word(output, b"a stray previous cell", 2, 5, 1);
-    word(output, b"a stray order number in a free cell", 1, 1, 1);
-    word(output, b"a stray load in a free cell", 3, 3, 1);
-    head(output, b"too few cells", 3, 1, 4);
-    head(output, b"too many cells", 5, 1, 4);
-    head(output, b"no cells", 0, 4096, 1);
+    let cases = [
+        word(b"a stray word in a cell in use", 0, 7, 1),
+        word(b"a stray previous cell", 2, 5, 1),
+        word(b"a stray order number in a free cell", 1, 1, 1),
+        word(b"a stray load in a free cell", 3, 3, 1),
+        head(b"too few cells", 3, 1, 4),
+        head(b"too many cells", 5, 1, 4),
+        head(b"no cells", 0, 4096, 1),
+    ];
+    tell(output, &cases);
 }
 
 fn main(rt: HostRuntime) {
-    sizes(rt.stdout());
-    sound(rt.stdout());
-    stacks(rt.stdout());
-    numbers(rt.stdout());
-    strays(rt.stdout());
+    let output = rt.stdout();
+    sizes(output);
+    sound(output);
+    stacks(output);
+    numbers(output);
+    strays(output);
 }

@@ -1,67 +1,34 @@
 -- What is due is handed out, step by step: from what the calls of each function answer.
 -- Assumes nothing.
-use Prim.Native.Nat.{ℕ, zero, suc, ◌+◌, ◌-◌, ◌*◌, ◌/◌, ◌≤◌, ◌<◌}
+use Prim.Native.Nat.{ℕ, zero, suc, ◌+◌, ◌-◌, ◌*◌, ◌/◌, ◌<◌}
 use native.Mathlib.Numerals.{add-one}
 use native.Mathlib.Omega.{arith}
 use mathlib.Core.Bool.{Bool, true, false, cond}
-use mathlib.Core.List.{List, [], ◌∷◌, append-nil}
+use mathlib.Core.List.{List, [], ◌∷◌}
 use mathlib.Core.Path.{◌≡◌, refl, sym, ap}
 use lib.Dec.{eqb}
-use lib.ListN.{length, take, drop, set, length-set, length-drop, drop_of_length-le}
-use lib.Seq.{take_all, drop-drop}
+use lib.ListN.{length}
+use lib.Seq.{drop-drop}
 use borrow.Author.Tests.{eq-eqb, ne_eqb}
-use borrow.Rule.Slice.PartMut.{put_mid, mid_of}
+use borrow.Rule.Slice.PartMut.{put_mid}
 use Rattle.cells.specs.Stack.{no_cell}
 use Rattle.cells.specs.Words.{word}
-use Rattle.cells.specs.Store.{release_words, release_store}
-use Rattle.cells.specs.declared.store.Store.{Store}
-use Rattle.slots.specs.declared.ring.Ends.{Ends}
-use Rattle.slots.specs.Rings.{left, leave_due, with_due}
-use Rattle.dial.specs.declared.state.Turn.{Turn}
-use Rattle.dial.specs.Turns.{State, with_words, recorded, fire, hand_out, room}
-use Rattle.dial.specs.Lent.{state_of, handed_out}
+use Rattle.cells.specs.Store.{release_store}
+use Rattle.dial.specs.Turns.{State, recorded, fire, hand_out, room}
+use Rattle.dial.specs.Lent.{handed_out}
 
--- After one and after two writes the third and the fourth place are still there.
-pub one_written : (rest : List ℕ) (c : ℕ) → 4 ≤ length rest → 1 < length (set rest 0 c)
-one_written rest c h = simp length-set (omega arith)
-
-pub two-written : (rest : List ℕ) (c k : ℕ) → 4 ≤ length rest → 2 < length (set (set rest 0 c) 1 k)
-two-written rest c k h = simp length-set (omega arith)
-
--- Four words written at the start.
-pub filled_is : (rest : List ℕ) (c k e x : ℕ) → 4 ≤ length rest → set (set (set (set rest 0 c) 1 k) 2 e) 3 x ≡ c ∷ k ∷ e ∷ x ∷ drop 4 rest
-filled_is [] c k e x h = absurd (omega arith)
-filled_is (a ∷ []) c k e x h = absurd (omega arith)
-filled_is (a ∷ b ∷ []) c k e x h = absurd (omega arith)
-filled_is (a ∷ b ∷ d ∷ []) c k e x h = absurd (omega arith)
-filled_is (a ∷ b ∷ d ∷ f ∷ rest) c k e x h = refl
-
--- The output behind n records is lent and given back as B, with a record at its start.
-pub recorded-is : (w out B : List ℕ) (n c k e x : ℕ) → B ≡ c ∷ k ∷ e ∷ x ∷ drop 4 (mid_of (n * 4) (length out - n * 4) out)
+-- A record of four words is copied in behind n records.
+pub recorded-is : (w out B : List ℕ) (n c k e x : ℕ) → B ≡ c ∷ k ∷ e ∷ x ∷ []
     → k ≡ word w c 0
     → e ≡ word w c 2
     → x ≡ word w c 3
-    → put_mid (n * 4) (length out - n * 4) out B ≡ recorded out n c (word w c 0) (word w c 2) (word w c 3)
+    → put_mid (n * 4) (n * 4 + 4 - n * 4) out B ≡ recorded out n c (word w c 0) (word w c 2) (word w c 3)
 unfolding recorded
 recorded-is w out B n c k e x h f g i =
-    let whole : take (length out - n * 4) (drop (n * 4) out) ≡ drop (n * 4) out =
-    take_all (length out - n * 4) (drop (n * 4) out) (simp length-drop (omega arith)) in
-    let none : drop (length out - n * 4) (drop (n * 4) out) ≡ [] =
-    drop_of_length-le (drop (n * 4) out) {i = length out - n * 4} (simp length-drop (omega arith)) in
-    rw (h, whole, none, append-nil (drop 4 (drop (n * 4) out)), drop-drop 4 (n * 4) out, f, g, i)
+    let four : n * 4 + 4 - n * 4 ≡ 4 = omega arith in
+    rw (four, h, drop-drop 4 (n * 4) out, f, g, i)
 
--- The first of the due list is handed out and freed.
-pub fired-is : (w f l m out : List ℕ) (t : Turn) {v u o : List ℕ} {d : Ends} {s : Store}
-    → o ≡ recorded out t.fired t.due.first (word w t.due.first 0) (word w t.due.first 2) (word w t.due.first 3)
-    → v ≡ (left w t.due t.due.first).words
-    → d ≡ (left w t.due t.due.first).ends
-    → u ≡ release_words v t.store t.due.first
-    → s ≡ release_store t.store t.due.first
-    → state_of u f l m o (record { clock = t.clock; due = d; store = s; fired = t.fired + 1; moves = t.moves }) ≡ fire (state_of w f l m out t)
-unfolding fire leave_due with_due with_words
-fired-is w f l m out t a b e g h = rw (a, e, g, h, b, add-one t.fired)
-
--- That is one record more.
+-- What is fired is one record more.
 pub one-fired : (z : State) {y : State} → y ≡ fire z → y.fired ≡ z.fired + 1
 unfolding fire
 one-fired z e = rw (e, add-one z.fired)

@@ -2,7 +2,7 @@
 -- Assumes nothing.
 use Prim.Native.Nat.{ℕ, ◌+◌, ◌*◌, ◌<◌}
 use native.Mathlib.Omega.{arith}
-use mathlib.Core.List.{List, []}
+use mathlib.Core.List.{List}
 use mathlib.Core.Path.{◌≡◌}
 use borrow.Author.Tests.{eq-eqb, ne_eqb}
 use Rattle.cells.proofs.Cases.{test}
@@ -10,6 +10,7 @@ use Rattle.places.specs.Ticks.{digit, level, place}
 use Rattle.places.proofs.Levels.{level-below}
 use Rattle.slots.specs.declared.ring.Ends.{Ends}
 use Rattle.slots.specs.Rings.{
+  Lists,
   has_slot,
   ends_of,
   with_ring,
@@ -24,7 +25,6 @@ use Rattle.slots.specs.Rings.{
   lent,
 }
 use Rattle.slots.specs.Stand.{due_list, join_at, leave_at}
-use Rattle.slots.proofs.SlotSteps.{Holds}
 use Rattle.dial.specs.Turns.{list_of, list_number}
 use Rattle.dial.specs.Lent.{lists_of}
 
@@ -51,24 +51,17 @@ digit-small p e s j = omega arith
 
 -- What a function on the slots does, with the due list beside it.
 module _ (w f l m : List ℕ) (d : Ends) (i : ℕ) where
-  pub join-beside : (c : ℕ) {u g k n : List ℕ} → Holds (join_slot (lent w f l m) i c) u g k n → lists_of u g k n d ≡ join_slot (lists_of w f l m d) i c
+  pub join-beside : (c : ℕ) {x : Lists} → x ≡ join_slot (lent w f l m) i c → lists_of x.words x.first x.last x.marks d ≡ join_slot (lists_of w f l m d) i c
   unfolding join_slot with_ring has_slot ends_of
-  join-beside c h =
-      rw (h.0, h.1.0, h.1.1.0, h.1.1.1)
-      (test (has_slot (lent w f l m) i) (λ e. rw e) (λ e. rw e))
+  join-beside c h = rw h (test (has_slot (lent w f l m) i) (λ e. rw e) (λ e. rw e))
 
-  pub leave-beside : (c : ℕ) {u g k n : List ℕ} → Holds (leave_slot (lent w f l m) i c) u g k n
-      → lists_of u g k n d ≡ leave_slot (lists_of w f l m d) i c
+  pub leave-beside : (c : ℕ) {x : Lists} → x ≡ leave_slot (lent w f l m) i c → lists_of x.words x.first x.last x.marks d ≡ leave_slot (lists_of w f l m d) i c
   unfolding leave_slot with_ring has_slot ends_of
-  leave-beside c h =
-      rw (h.0, h.1.0, h.1.1.0, h.1.1.1)
-      (test (has_slot (lent w f l m) i) (λ e. rw e) (λ e. rw e))
+  leave-beside c h = rw h (test (has_slot (lent w f l m) i) (λ e. rw e) (λ e. rw e))
 
-  pub empty-beside : {g k n : List ℕ} → g ≡ (empty_slot (lent [] f l m) i).first → k ≡ (empty_slot (lent [] f l m) i).last
-      → n ≡ (empty_slot (lent [] f l m) i).marks
-      → lists_of w g k n d ≡ empty_slot (lists_of w f l m d) i
+  pub empty-beside : {x : Lists} → x ≡ empty_slot (lent w f l m) i → lists_of x.words x.first x.last x.marks d ≡ empty_slot (lists_of w f l m d) i
   unfolding empty_slot with_ring has_slot
-  empty-beside a b e = rw (a, b, e) (test (has_slot (lent w f l m) i) (λ e. rw e) (λ e. rw e))
+  empty-beside h = rw h (test (has_slot (lent w f l m) i) (λ e. rw e) (λ e. rw e))
 
 -- A cell joins or leaves list i: the due list, or a slot.
 module _ (w f l m : List ℕ) (d : Ends) (i c : ℕ) where
@@ -82,11 +75,11 @@ module _ (w f l m : List ℕ) (d : Ends) (i c : ℕ) where
   unfolding leave_at leave_due with_due
   leave-due e a b = rw (eq-eqb i due_list e, a, b)
 
-  module _ (e : i ≡ due_list → ⊥) {u g k n : List ℕ} where
-    pub join_slot_lem : Holds (join_slot (lent w f l m) i c) u g k n → lists_of u g k n d ≡ join_at (lists_of w f l m d) i c
+  module _ (e : i ≡ due_list → ⊥) {x : Lists} where
+    pub join_slot_lem : x ≡ join_slot (lent w f l m) i c → lists_of x.words x.first x.last x.marks d ≡ join_at (lists_of w f l m d) i c
     unfolding join_at
     join_slot_lem h = rw (ne_eqb i due_list e) (join-beside w f l m d i c h)
 
-    pub leave-slot : Holds (leave_slot (lent w f l m) i c) u g k n → lists_of u g k n d ≡ leave_at (lists_of w f l m d) i c
+    pub leave-slot : x ≡ leave_slot (lent w f l m) i c → lists_of x.words x.first x.last x.marks d ≡ leave_at (lists_of w f l m d) i c
     unfolding leave_at
     leave-slot h = rw (ne_eqb i due_list e) (leave-beside w f l m d i c h)

@@ -3,48 +3,24 @@
 use Prim.Native.Nat.{ℕ, zero, suc, ◌+◌, ◌-◌, ◌/◌, ◌%◌, ◌≤◌, ◌<◌}
 use native.Mathlib.Omega.{arith}
 use mathlib.Core.Bool.{Bool, true, false, cond, ◌||◌}
-use mathlib.Core.List.{List, []}
+use mathlib.Core.List.{List}
 use mathlib.Core.Path.{◌≡◌, refl, sym, ap, ◌∙◌}
-use lib.Dec.{leb, ltb, eqb}
-use borrow.Author.Tests.{eq-eqb, ne_eqb, lt-ltb, le-ltb, le-leb, lt-leb}
-use Rattle.cells.proofs.Cases.{and-false}
+use Rattle.std.specs.Prelude.{Option, Some, None, is_some}
+use lib.Dec.{ltb, eqb}
+use borrow.Author.Tests.{eq-eqb, ne_eqb, lt-ltb, le-ltb}
 use Rattle.cells.specs.Stack.{no_cell}
 use Rattle.cells.specs.Words.{word}
 use Rattle.cells.specs.declared.store.Store.{Store}
 use Rattle.places.specs.Answers.{wake_answer}
 use Rattle.slots.specs.declared.ring.Ends.{Ends}
-use Rattle.slots.specs.Rings.{ends_of, lent, empty_slot, slot_marked, first_marked}
+use Rattle.slots.specs.Rings.{Lists, ends_of, lent, empty_slot, slot_marked, first_marked}
 use Rattle.slots.specs.Stand.{due_list, ends_at}
 use Rattle.slots.proofs.Standing.{scan-least}
 use Rattle.dial.specs.declared.state.Turn.{Turn}
+use Rattle.dial.specs.declared.state.HowEnded.{HowEnded}
 use Rattle.dial.specs.declared.state.HowEnded.TheVariants as how
-use Rattle.dial.specs.Turns.{
-  State,
-  refile,
-  walk,
-  turned,
-  enter,
-  hand_out,
-  room,
-  done,
-  more,
-  broken,
-  Ended,
-  wake_at,
-  turns,
-  turns_for,
-}
-use Rattle.dial.specs.Lent.{
-  state_of,
-  ending_of,
-  ended_of,
-  handed_out,
-  onward,
-  once,
-  has_ended,
-  countable,
-  advance_turns,
-}
+use Rattle.dial.specs.Turns.{State, refile, walk, turned, enter, hand_out, room, done, more, broken, Ended, wake_at, turns}
+use Rattle.dial.specs.Lent.{state_of, ending_of, ended_of, handed_out, onward, once, has_ended}
 use Rattle.dial.proofs.ListSteps.{empty-beside}
 use Rattle.dial.proofs.FileSteps.{refile-moves, refile-store}
 use Rattle.dial.proofs.FireSteps.{hand-keeps}
@@ -69,26 +45,25 @@ wake-at clock i tick h e = e ∙ rw (lt-ltb (i / 64) 6 (omega arith), lt-ltb (i 
 
 module _ (w f l m : List ℕ) (t : Turn) (out : List ℕ) where
   -- A slot is emptied, and walked at its wake tick.
-  pub entered-is : (tick i : ℕ) {e : Ends} {g k n : List ℕ} {y : State} → i < due_list → e ≡ ends_of (lent [] f l []) i
-      → g ≡ (empty_slot (lent [] f l m) i).first
-      → k ≡ (empty_slot (lent [] f l m) i).last
-      → n ≡ (empty_slot (lent [] f l m) i).marks
-      → y ≡ walk t.store.cells e.first (state_of w g k n out (at_clock t tick))
+  pub entered-is : (tick i : ℕ) {e : Ends} {x : Lists} {r : Turn} {y : State} → i < due_list → e ≡ ends_of (lent w f l m) i
+      → x ≡ empty_slot (lent w f l m) i
+      → r ≡ at_clock t tick
+      → y ≡ walk r.store.cells e.first (state_of x.words x.first x.last x.marks out r)
       → y ≡ enter tick i (state_of w f l m out t)
   unfolding enter turned ends_at ends_of
-  entered-is tick i h a b c d p =
-      p ∙ rw (a, empty-beside w f l m t.due i b c d, ne_eqb i due_list (omega arith))
+  entered-is tick i h a b q p =
+      p ∙ rw (q, a, empty-beside w f l m t.due i b, ne_eqb i due_list (omega arith))
 
   -- No wake tick is left.
-  module _ (target i : ℕ) {r : Turn} (e : i ≡ first_marked m) (a : r ≡ at_clock t target) where
-    pub onward-none : i ≡ due_list → ended_of w f l m out (record { turn = r; ending = how.Done }) ≡ onward target (state_of w f l m out t)
+  module _ (target : ℕ) {r : Turn} (a : r ≡ at_clock t target) where
+    pub onward-none : first_marked m ≡ due_list → ended_of w f l m out (record { turn = r; ending = Some how.Done }) ≡ onward target (state_of w f l m out t)
     unfolding onward turned ending_of
-    onward-none h = rw (a, ← e, eq-eqb i due_list h)
+    onward-none h = rw (a, eq-eqb (first_marked m) due_list h)
 
-    pub onward-later : {tick : ℕ} → i < due_list → tick ≡ wake_answer t.clock (i / 64) (i % 64) → target < tick
-        → ended_of w f l m out (record { turn = r; ending = how.Done }) ≡ onward target (state_of w f l m out t)
+    pub onward-later : {i tick : ℕ} → i ≡ first_marked m → i < due_list → tick ≡ wake_answer t.clock (i / 64) (i % 64) → target < tick
+        → ended_of w f l m out (record { turn = r; ending = Some how.Done }) ≡ onward target (state_of w f l m out t)
     unfolding onward turned ending_of
-    onward-later {tick} h b less =
+    onward-later {i} {tick} e h b less =
         rw (a, ← e, ← wake-at t.clock i tick h b, ne_eqb i due_list (omega arith), lt-ltb target tick less)
 
   -- The next wake tick is entered.
@@ -96,7 +71,7 @@ module _ (w f l m : List ℕ) (t : Turn) (out : List ℕ) where
       → tick ≡ wake_answer t.clock (i / 64) (i % 64)
       → tick ≤ target
       → state_of u g k n out r ≡ enter tick i (state_of w f l m out t)
-      → ended_of u g k n out (record { turn = r; ending = how.Broken }) ≡ onward target (state_of w f l m out t)
+      → ended_of u g k n out (record { turn = r; ending = None }) ≡ onward target (state_of w f l m out t)
   unfolding onward ending_of
   onward-enters target i {tick = tick} e h b least a =
       rw (a, ← e, ← wake-at t.clock i tick h b, ne_eqb i due_list (omega arith), le-ltb target tick least)
@@ -110,6 +85,18 @@ module _ (target : ℕ) (z y : State) (h : y ≡ handed_out z) where
   pub once_more : (y.lists.due.first ≡ no_cell → ⊥) → record { state = y; ending = more } ≡ once target z
   unfolding once
   once_more e = rw (h, ne_eqb (handed_out z).lists.due.first no_cell (λ i. e (ap (λ (x : State). x.lists.due.first) h ∙ i)))
+
+-- The turns have ended where there is an ending, and go on where there is none.
+pub some-ended : (e : Option HowEnded) → is_some e ≡ true → has_ended (ending_of e) ≡ true
+unfolding has_ended ending_of
+some-ended (Some how.Done) e = refl
+some-ended (Some how.More) e = refl
+some-ended None e = cc
+
+pub none-goes : (e : Option HowEnded) → is_some e ≡ false → has_ended (ending_of e) ≡ false
+unfolding has_ended ending_of
+none-goes None e = refl
+none-goes (Some x) e = cc
 
 -- The turns are one turn and, where that has not ended them, the others.
 one-of-them : (s b : Bool) (d m x : State) (f : State → Ended) →
@@ -138,10 +125,10 @@ module _ (k target : ℕ) (z : State) {r : Ended} (some : 0 < k) (a : r ≡ once
       let more : k ≡ suc (k - 1) = omega arith in
       rw more (turns-once (k - 1) target z ∙ rw (← a, e))
 
-  pub turns-on : has_ended r.ending ≡ false → turns k target z ≡ turns (k - 1) target r.state
-  turns-on e =
-      let more : k ≡ suc (k - 1) = omega arith in
-      ap (λ (j : ℕ). turns j target z) more ∙ turns-once (k - 1) target z ∙ rw (← a, e)
+  pub turns-on : (j : ℕ) → k ≡ j + 1 → has_ended r.ending ≡ false → turns k target z ≡ turns j target r.state
+  turns-on j h e =
+      let more : k ≡ suc j = omega arith in
+      ap (λ (i : ℕ). turns i target z) more ∙ turns-once j target z ∙ rw (← a, e)
 
 -- No turn is left.
 pub turns-none : (k target : ℕ) (z : State) → k ≡ 0 → turns k target z ≡ record { state = z; ending = broken }
@@ -207,17 +194,3 @@ once-few target z = go (eqb y.lists.due.first no_cell)
 -- The same from what the function answers.
 pub turn-few : (target : ℕ) (z : State) {r : Ended} → r ≡ once target z → Few z r.state
 turn-few target z e = rw e (once-few target z)
-
--- An advance, by its bounds.
-module _ (target : ℕ) (z : State) where
-  pub advance-runs : z.store.cells ≤ 4096 → z.moves ≤ 4294967295 → turns (turns_for z) target z ≡ advance_turns target z
-  unfolding advance_turns countable
-  advance-runs h i = rw (le-leb z.store.cells 4096 h, le-leb z.moves 4294967295 i)
-
-  pub advance-large : 4096 < z.store.cells → record { state = z; ending = broken } ≡ advance_turns target z
-  unfolding advance_turns countable
-  advance-large h = rw (lt-leb z.store.cells 4096 h)
-
-  pub advance-moved : 4294967295 < z.moves → record { state = z; ending = broken } ≡ advance_turns target z
-  unfolding advance_turns countable
-  advance-moved h = rw (lt-leb z.moves 4294967295 h, and-false (leb z.store.cells 4096))

@@ -1,6 +1,6 @@
 -- A walk along the cells of a list that stand in no list any more: each joins the list of its deadline at the clock.
 -- Assumes nothing.
-use Prim.Native.Nat.{ℕ, zero, suc, ◌+◌, ◌/◌, ◌≤◌, ◌<◌, ◌-◌}
+use Prim.Native.Nat.{ℕ, zero, suc, ◌+◌, ◌/◌, ◌≤◌, ◌<◌}
 use native.Mathlib.Omega.{arith}
 use mathlib.Core.Bool.{cond}
 use mathlib.Core.List.{List, [], ◌∷◌, ◌++◌, map, append-nil, append_assoc}
@@ -211,8 +211,7 @@ walk-walked (e ∷ ws) (suc k) c z ls xs ahead h =
     let first : c ≡ e.cell = ahead.linked.0 in
     let this : ToWalk z ls xs e.cell (e ∷ ws) = rw first at ahead in
     let cell : e.cell ≢ no_cell = λ s. omega (arith, this.inside e.cell (here z ls xs e ws this), this.stands.room) in
-    let less : suc k - 1 ≡ k = omega arith in
-    rw (first, walk-on (suc k) e.cell z (omega arith) cell refl refl, less)
+    rw (first, walk-on (suc k) k e.cell z (omega arith) cell refl refl)
     (walked_more z (walk k (word z.lists.words e.cell 4) (refile e.cell z)) ls xs e ws this
     (walk-walked ws k (word z.lists.words e.cell 4) (refile e.cell z) (joined_to z.clock e ls) xs
     (next-ahead z ls xs e ws this)

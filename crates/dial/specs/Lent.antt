@@ -1,8 +1,9 @@
 -- An advance as functions have it: its state in lent slices with a turn's numbers by value, and turn by turn.
 -- Assumes nothing.
-use Rattle.std.specs.Prelude.{ℕ, ◌-◌, Bool, true, false, cond, ◌&&◌, ◌||◌, List, leb, ltb, eqb}
+use Rattle.std.specs.Prelude.{ℕ, ◌-◌, Bool, true, false, cond, ◌&&◌, ◌||◌, List, Option, Some, None, leb, ltb, eqb}
 use Rattle.cells.specs.Stack.{no_cell}
 use Rattle.slots.specs.declared.ring.Ends.{Ends}
+use Rattle.slots.specs.declared.slots.Lists.{Lists as Slices}
 use Rattle.slots.specs.Rings.{Lists, first_marked}
 use Rattle.slots.specs.Stand.{due_list}
 use Rattle.dial.specs.Turns.{State, Ending, done, more, broken, Ended, turned, enter, hand_out, room, wake_at, turns, turns_for}
@@ -28,14 +29,24 @@ state_of w first last marks out t =
     }
 
 -- How an advance ends, as it is answered.
-unfoldable pub ending_of : HowEnded → Ending
-ending_of how.Done = done
-ending_of how.More = more
-ending_of how.Broken = broken
+unfoldable pub ending_of : Option HowEnded → Ending
+ending_of (Some how.Done) = done
+ending_of (Some how.More) = more
+ending_of None = broken
 
 -- The state with its ending, of the slices and the answer.
 abbrev pub ended_of : List ℕ → List ℕ → List ℕ → List ℕ → List ℕ → TurnsEnded → Ended
 ended_of w first last marks out r = record { state = state_of w first last marks out r.turn; ending = ending_of r.ending }
+
+-- The same, of slices that are lent together.
+abbrev pub lists_in : Slices → Ends → Lists
+lists_in l due = lists_of l.words.now l.first.now l.last.now l.marks.now due
+
+abbrev pub state_in : Slices → List ℕ → Turn → State
+state_in l out t = state_of l.words.now l.first.now l.last.now l.marks.now out t
+
+abbrev pub ended_in : Slices → List ℕ → TurnsEnded → Ended
+ended_in l out r = ended_of l.words.now l.first.now l.last.now l.marks.now out r
 
 -- As far as there is room.
 unfoldable pub handed_out : State → State

@@ -1,25 +1,13 @@
 // What is due is handed out: a record of four words for each entry, behind those before it, and its cell is freed.
 
-ghost use Rattle.std.specs.Prelude.{ℕ, ◌/◌, ◌≤◌, ◌<◌, List, ◌∷◌, ◌≡◌, length, drop};
+ghost use Rattle.std.specs.Prelude.{ℕ, ◌/◌, ◌<◌, List, ◌≡◌, length};
 ghost use Rattle.cells.specs.Words.{word};
 ghost use Rattle.dial.specs.Turns.{recorded, fire as fire_of};
 ghost use Rattle.dial.specs.Lent.{state_of, handed_out};
 
 use crate::state::Turn;
-use cells::store::release;
 use cells::words::get;
 use slots::ring::leave;
-
-// Writes a record at the start of what is left of the output.
-fn fill_record(rest: &mut [u64], c: u64, k: u64, e: u64, x: u64)
-    requires { 4 ≤ length rest.old }
-    ensures { rest.new ≡ c ∷ k ∷ e ∷ x ∷ drop 4 rest.old }
-{
-    rest[0] = c;
-    rest[1] = k;
-    rest[2] = e;
-    rest[3] = x;
-}
 
 // Writes the record of the entry in cell c behind n records.
 fn add_record(w: &[u64], out: &mut [u64], n: u64, c: u64)
@@ -27,14 +15,13 @@ fn add_record(w: &[u64], out: &mut [u64], n: u64, c: u64)
     ensures { out.new
         ≡ recorded out.old n c (word w.now c 0) (word w.now c 2) (word w.now c 3) }
 {
-    let k = get(w, c, 0);
-    let e = get(w, c, 2);
-    let x = get(w, c, 3);
+    let record = [c, get(w, c, 0), get(w, c, 2), get(w, c, 3)];
     let at = (n * 4) as usize;
-    fill_record(&mut out[at..], c, k, e, x);
+    out[at..at + 4].copy_from_slice(&record);
 }
 
 // The first of the due list is handed out and freed.
+#[tactic(auto, unfolding(crate::specs::Turns::fire, crate::specs::Turns::with_words, slots::specs::Rings::leave_due, slots::specs::Rings::with_due))]
 fn fire(w: &mut [u64], out: &mut [u64], t: Turn) -> Turn
     requires { t.fired < length out.old / 4 }
     ensures { (first last marks : List ℕ) → state_of w.new first last marks out.new result
@@ -43,27 +30,24 @@ fn fire(w: &mut [u64], out: &mut [u64], t: Turn) -> Turn
     let c = t.due.first;
     add_record(w, out, t.fired, c);
     let due = leave(w, t.due, c);
-    let store = release(w, t.store, c);
+    let mut store = t.store;
+    store.release(w, c);
     Turn {
-        clock: t.clock,
         due,
         store,
         fired: t.fired + 1,
-        moves: t.moves,
+        ..t
     }
 }
 
-// All that is due is handed out, as far as there is room.
+// All that is due is handed out, as far as there is room. No range: what is counted are the records, and `fire` counts them.
 pub fn hand_out(w: &mut [u64], out: &mut [u64], t: Turn) -> Turn
     ensures { (first last marks : List ℕ) → state_of w.new first last marks out.new result
         ≡ handed_out (state_of w.old first last marks out.old t) }
 {
     let room = (out.len() / 4) as u64;
     let mut turn = t;
-    while turn.fired < room {
-        if turn.due.first == 4096 {
-            return turn;
-        }
+    while turn.fired < room && turn.due.first != 4096 {
         turn = fire(w, out, turn);
     }
     turn

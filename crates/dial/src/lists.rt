@@ -1,13 +1,14 @@
-// A wheel's lists by number: 384 slots, level by level, and the due list as number 384.
+// A wheel's lists by number: 384 slots, level by level, and the due list as number 384. No enum: `list_of`, `join_at` and `Stand` of the specs count them.
 
 ghost use Rattle.std.specs.Prelude.{◌≡◌};
 ghost use Rattle.slots.specs.Stand.{join_at, leave_at};
+ghost use Rattle.slots.specs.Held.{same_slices};
 ghost use Rattle.dial.specs.Turns.{list_of};
-ghost use Rattle.dial.specs.Lent.{lists_of};
+ghost use Rattle.dial.specs.Lent.{lists_in};
 
 use places::{level, slot};
 use slots::ring::{Ends, join, leave};
-use slots::slots::{join_slot, leave_slot};
+use slots::slots::Lists;
 
 // The number of the list in which an entry stands.
 pub fn list_of(clock: u64, deadline: u64) -> u64
@@ -21,41 +22,25 @@ pub fn list_of(clock: u64, deadline: u64) -> u64
 }
 
 // Cell c joins list i at the tail, and says the ends of the due list then.
-pub fn join_at(
-    w: &mut [u64],
-    first: &mut [u16],
-    last: &mut [u16],
-    marks: &mut [u64],
-    due: Ends,
-    i: u64,
-    c: u64,
-) -> Ends
-    ensures { lists_of w.new first.new last.new marks.new result
-        ≡ join_at (lists_of w.old first.old last.old marks.old due) i c }
+pub fn join_at(lists: &mut Lists, due: Ends, i: u64, c: u64) -> Ends
+    ensures slices { same_slices lists.old lists.new }
+    ensures lists { lists_in lists.new result ≡ join_at (lists_in lists.old due) i c }
 {
     if i == 384 {
-        return join(w, due, c);
+        return join(lists.words, due, c);
     }
-    join_slot(w, first, last, marks, i, c);
+    lists.join_slot(i, c);
     due
 }
 
 // Cell c leaves list i, and says the ends of the due list then.
-pub fn leave_at(
-    w: &mut [u64],
-    first: &mut [u16],
-    last: &mut [u16],
-    marks: &mut [u64],
-    due: Ends,
-    i: u64,
-    c: u64,
-) -> Ends
-    ensures { lists_of w.new first.new last.new marks.new result
-        ≡ leave_at (lists_of w.old first.old last.old marks.old due) i c }
+pub fn leave_at(lists: &mut Lists, due: Ends, i: u64, c: u64) -> Ends
+    ensures slices { same_slices lists.old lists.new }
+    ensures lists { lists_in lists.new result ≡ leave_at (lists_in lists.old due) i c }
 {
     if i == 384 {
-        return leave(w, due, c);
+        return leave(lists.words, due, c);
     }
-    leave_slot(w, first, last, marks, i, c);
+    lists.leave_slot(i, c);
     due
 }

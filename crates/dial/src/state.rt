@@ -23,31 +23,23 @@ pub struct Turn {
     pub moves: u64,
 }
 
-// Broken: the memory is no wheel's, and the turns ran out.
-#[derive(Clone, Copy)]
+// The target is reached, or more is due than there is room for.
+#[derive(Clone, Copy, PartialEq, Eq)]
 pub enum HowEnded {
     Done,
     More,
-    Broken,
 }
 
+// No ending: the turns go on or, where all are over, the memory is no wheel's and they ran out.
 #[derive(Clone, Copy)]
 pub struct TurnsEnded {
     pub turn: Turn,
-    pub ending: HowEnded,
+    pub ending: Option<HowEnded>,
 }
 
 // The turn at another clock.
 pub fn at_clock(t: Turn, clock: u64) -> Turn
     ensures { result ≡ record { clock = clock; due = t.due; store = t.store; fired = t.fired; moves = t.moves } }
 {
-    let due = t.due;
-    let store = t.store;
-    Turn {
-        clock,
-        due,
-        store,
-        fired: t.fired,
-        moves: t.moves,
-    }
+    Turn { clock, ..t }
 }

@@ -10,8 +10,12 @@ unfoldable pub ranked : ℕ → ℕ → ℕ → ℕ → Bool
 ranked key order key' order' = ltb key key' || (eqb key key' && ltb order order')
 
 -- Cell c takes position p, and "each entry knows its position".
-unfoldable pub seated : List ℕ → ℕ → ℕ → List ℕ
+abbrev pub seated : List ℕ → ℕ → ℕ → List ℕ
 seated w p c = put_word (put_word w p 6 c) c 5 p
+
+-- Cell c as it would stand at position p.
+abbrev pub seat_with : List ℕ → ℕ → ℕ → Seat
+seat_with w p c = record { position = p; cell = c; key = word w c 2; order = word w c 1 }
 
 -- Who stands at position p.
 unfoldable pub seat_at : List ℕ → ℕ → Seat
@@ -19,7 +23,7 @@ seat_at w p =
     record { position = p; cell = word w p 6; key = word w (word w p 6) 2; order = word w (word w p 6) 1 }
 
 -- The earlier of two, the first where neither is before the other.
-unfoldable pub sooner : Seat → Seat → Seat
+abbrev pub sooner : Seat → Seat → Seat
 sooner a b = cond (ranked b.key b.order a.key a.order) b a
 
 -- The earliest of one and of the m positions from q on.
@@ -71,11 +75,11 @@ settle_walk d n p c w =
     (sink_walk d n (word w c 2) (word w c 1) c n p 0 w)
 
 -- Where nothing is done.
-unfoldable pub standing : List ℕ → Walk
+abbrev pub standing : List ℕ → Walk
 standing w = record { words = w; steps = 0 }
 
 -- The entry that is carried counts too.
-unfoldable pub once_more : Walk → Walk
+abbrev pub once_more : Walk → Walk
 once_more a = record { words = a.words; steps = suc a.steps }
 
 -- There is a heap of n with arity d and a position p in it: outside of that nothing is done, so that no call owes a bound.
@@ -96,7 +100,7 @@ vacate_walk d n p w =
     cond (in_reach d n p) (cond (eqb p (n - 1)) (standing (put_word w p 6 0)) (refill_walk d n p w)) (standing w)
 
 -- None moves where an entry that settles makes no step, else it moves itself too.
-unfoldable pub count_self : Walk → Walk
+abbrev pub count_self : Walk → Walk
 count_self a = cond (eqb a.steps 0) a (once_more a)
 
 -- "Rekey: rise, else sink, in the same way."

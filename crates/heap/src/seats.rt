@@ -1,14 +1,14 @@
 // The heap's seats in lent words: the position table (word 6 of cell p is the cell at position p) and each entry's own position (word 5).
 // An entry is carried through a hole: those it passes step into the hole, and it takes its seat once, at the end.
 
-ghost use Rattle.std.specs.Prelude.{◌+◌, ◌-◌, ◌≤◌, ◌<◌, cond, ◌≡◌};
+ghost use Rattle.std.specs.Prelude.{◌+◌, ◌-◌, ◌*◌, ◌≤◌, ◌<◌, ◌≡◌, true, false, cond, MatchOption};
 ghost use Rattle.meaning.specs.Heap.{parent};
-ghost use Rattle.cells.specs.Words.{word};
 ghost use Rattle.heap.specs.Seats.{
   ranked,
   seated,
+  seat_with,
   seat_at,
-  sooner as sooner_of,
+  sooner,
   soonest,
   first_child,
   may_rise,
@@ -25,7 +25,7 @@ ghost use Rattle.heap.specs.Seats.{
 
 use cells::words::{get, put};
 
-// Who stands at a position.
+// Who stands at a position, or is carried to the hole there.
 #[derive(Clone, Copy)]
 pub struct Seat {
     pub position: u64,
@@ -34,11 +34,21 @@ pub struct Seat {
     pub order: u64,
 }
 
+impl Seat {
+    // Whether this one's entry is before the other's.
+    fn is_before(self, other: Seat) -> bool
+        ensures { result ≡ ranked self.key self.order other.key other.order }
+    {
+        is_before(self.key, self.order, other.key, other.order)
+    }
+}
+
 // Whether an entry of this key and order number is before one of those.
+#[tactic(auto, using(std::proofs::lemmas::Bool::Decides::nat_tests), unfolding(crate::specs::Seats::ranked))]
 pub fn is_before(key: u64, order: u64, key2: u64, order2: u64) -> bool
     ensures { result ≡ ranked key order key2 order2 }
 {
-    (key < key2) | ((key == key2) & (order < order2))
+    (key, order) < (key2, order2)
 }
 
 // Seats cell c at position p.
@@ -49,11 +59,10 @@ fn take_seat(w: &mut [u64], p: u64, c: u64)
     put(w, c, 5, p);
 }
 
-// Who stands at position p.
-pub fn look(w: &[u64], p: u64) -> Seat
-    ensures { result ≡ seat_at w.now p }
+// A cell as it would stand at position p.
+fn seat_with(w: &[u64], p: u64, cell: u64) -> Seat
+    ensures { result ≡ seat_with w.now p cell }
 {
-    let cell = get(w, p, 6);
     Seat {
         position: p,
         cell,
@@ -62,7 +71,16 @@ pub fn look(w: &[u64], p: u64) -> Seat
     }
 }
 
+// Who stands at position p.
+#[tactic(auto, unfolding(crate::specs::Seats::seat_at))]
+pub fn look(w: &[u64], p: u64) -> Seat
+    ensures { result ≡ seat_at w.now p }
+{
+    seat_with(w, p, get(w, p, 6))
+}
+
 // The parent's position of p.
+#[tactic(auto, unfolding(meaning::specs::Heap::parent))]
 fn parent_of(d: u64, p: u64) -> u64
     requires { (1 ≤ d) × (1 ≤ p) }
     ensures { result ≡ parent d p }
@@ -70,205 +88,161 @@ fn parent_of(d: u64, p: u64) -> u64
     (p - 1) / d
 }
 
-// One of two numbers: chosen, and no branch.
-fn pick(t: bool, yes: u64, no: u64) -> u64
-    ensures { result ≡ cond t yes no }
-{
-    if t {
-        return yes;
-    }
-    no
-}
-
-// The earlier of two, field by field, so that the compiler needs no branch and keeps the fields in registers.
+// The earlier of two, field by field: `if b.is_before(a) { b } else { a }` is a branch to the compiler, and a call of a queue of arity 2, 4
+// or 8 then takes 1.05 to 1.38 times as long.
 fn sooner(a: Seat, b: Seat) -> Seat
-    ensures { result ≡ sooner_of a b }
+    ensures { result ≡ sooner a b }
 {
-    let t = is_before(b.key, b.order, a.key, a.order);
+    let t = b.is_before(a);
     Seat {
-        position: pick(t, b.position, a.position),
-        cell: pick(t, b.cell, a.cell),
-        key: pick(t, b.key, a.key),
-        order: pick(t, b.order, a.order),
+        position: if t { b.position } else { a.position },
+        cell: if t { b.cell } else { a.cell },
+        key: if t { b.key } else { a.key },
+        order: if t { b.order } else { a.order },
     }
 }
 
-// The earliest of the positions first to end - 1.
-fn earliest_among(w: &[u64], first: u64, end: u64) -> Seat
-    requires { (first < end) × (end ≤ 4096) }
-    ensures { result ≡ soonest w.now (seat_at w.now first) (first + 1) (end - first - 1) }
+// The earliest of the m positions from first on.
+#[inline(always)]
+fn earliest_among(w: &[u64], first: u64, m: u64) -> Seat
+    requires { (1 ≤ m) × (first + m ≤ 4096) }
+    ensures { result ≡ soonest w.now (seat_at w.now first) (first + 1) (m - 1) }
 {
     let mut best = look(w, first);
-    let mut q = first + 1;
-    while q < end {
-        best = sooner(best, look(w, q));
-        q += 1;
+    for k in 1..m {
+        best = sooner(best, look(w, first + k));
     }
     best
 }
 
-// The earliest of one and of the positions q and q + 1.
-fn next_two(w: &[u64], best: Seat, q: u64) -> Seat
-    requires { q ≤ 4096 }
-    ensures { result ≡ soonest w.now best q 2 }
-{
-    let near = sooner(best, look(w, q));
-    sooner(near, look(w, q + 1))
-}
-
-// The earliest of the two positions from first on.
-fn of_two(w: &[u64], first: u64) -> Seat
-    requires { first ≤ 4096 }
-    ensures { result ≡ soonest w.now (seat_at w.now first) (first + 1) 1 }
-{
-    sooner(look(w, first), look(w, first + 1))
-}
-
-// The earliest of the four positions from first on.
-fn of_four(w: &[u64], first: u64) -> Seat
-    requires { first ≤ 4092 }
-    ensures { result ≡ soonest w.now (seat_at w.now first) (first + 1) 3 }
-{
-    next_two(w, of_two(w, first), first + 2)
-}
-
-// The earliest of the eight positions from first on.
-fn of_eight(w: &[u64], first: u64) -> Seat
-    requires { first ≤ 4088 }
-    ensures { result ≡ soonest w.now (seat_at w.now first) (first + 1) 7 }
-{
-    let six = next_two(w, of_four(w, first), first + 4);
-    next_two(w, six, first + 6)
-}
-
-// The earliest of the d positions from first on: for the usual arities with no loop, so that the compiler picks and does not branch.
+// The earliest of the d positions from first on. At the usual arities the number is one that the compiler knows, so that it leaves no loop:
+// it picks, and does not branch.
 fn earliest_of(w: &[u64], d: u64, first: u64) -> Seat
     requires { (1 ≤ d) × (d ≤ 8) × (first + d ≤ 4096) }
     ensures { result ≡ soonest w.now (seat_at w.now first) (first + 1) (d - 1) }
 {
-    if d == 4 {
-        return of_four(w, first);
+    match d {
+        2 => earliest_among(w, first, 2),
+        4 => earliest_among(w, first, 4),
+        8 => earliest_among(w, first, 8),
+        _ => earliest_among(w, first, d),
     }
-    if d == 8 {
-        return of_eight(w, first);
-    }
-    if d == 2 {
-        return of_two(w, first);
-    }
-    earliest_among(w, first, first + d)
 }
 
 // The earliest child whose positions begin at first, in a heap of n.
+#[tactic(auto, unfolding(crate::specs::Seats::first_child))]
 fn earliest_child(w: &[u64], d: u64, n: u64, first: u64) -> Seat
     requires { (1 ≤ d) × (d ≤ 8) × (first < n) × (n ≤ 4096) }
     ensures { result ≡ first_child d n w.now first }
 {
     if n < first + d {
-        return earliest_among(w, first, n);
+        return earliest_among(w, first, n - first);
     }
     earliest_of(w, d, first)
 }
 
-// Whether an entry with this key and order number is before the parent of position p.
-fn may_rise(w: &[u64], d: u64, p: u64, key: u64, order: u64) -> bool
+// The parent of the hole to which an entry is carried, if the entry is before it.
+#[tactic(auto, unfolding(crate::specs::Seats::may_rise))]
+fn later_parent(w: &[u64], d: u64, s: Seat) -> Option<Seat>
     requires { 1 ≤ d }
-    ensures { result ≡ may_rise d key order p w.now }
+    ensures { MatchOption result (may_rise d s.key s.order s.position w.now ≡ false)
+        (λ q. (may_rise d s.key s.order s.position w.now ≡ true) × (q ≡ seat_at w.now (parent d s.position))) }
 {
-    if p == 0 {
-        return false;
+    if s.position == 0 {
+        return None;
     }
-    let q = look(w, parent_of(d, p));
-    is_before(key, order, q.key, q.order)
+    let q = look(w, parent_of(d, s.position));
+    if s.is_before(q) { Some(q) } else { None }
 }
 
-// Carries cell c up from the hole at p, and says how many it passed.
-fn rise(w: &mut [u64], d: u64, p: u64, c: u64, key: u64, order: u64) -> u64
-    requires { (1 ≤ d) × (p ≤ 4096) }
-    ensures words { w.new ≡ (rise_walk d key order c p p 0 w.old).words }
-    ensures steps { result ≡ (rise_walk d key order c p p 0 w.old).steps }
+// The earliest child of the hole to which an entry is carried in a heap of n, if the child is before it.
+#[tactic(auto, unfolding(crate::specs::Seats::may_sink))]
+fn sooner_child(w: &[u64], d: u64, n: u64, s: Seat) -> Option<Seat>
+    requires { (1 ≤ d) × (d ≤ 8) × (s.position < n) × (n ≤ 4096) }
+    ensures { MatchOption result (may_sink d n s.key s.order s.position w.now ≡ false)
+        (λ q. (may_sink d n s.key s.order s.position w.now ≡ true) × (q ≡ first_child d n w.now (d * s.position + 1))) }
 {
-    let mut at = p;
-    let mut steps: u64 = 0;
-    while at > 0 {
-        let q = look(w, parent_of(d, at));
-        if !is_before(key, order, q.key, q.order) {
-            take_seat(w, at, c);
-            return steps;
-        }
-        take_seat(w, at, q.cell);
-        at = q.position;
+    let first = d * s.position + 1;
+    if first >= n {
+        return None;
+    }
+    let q = earliest_child(w, d, n, first);
+    if q.is_before(s) { Some(q) } else { None }
+}
+
+// Carries an entry up from the hole where it is, and says how many it passed.
+fn rise(w: &mut [u64], d: u64, mut s: Seat) -> u64
+    requires { (1 ≤ d) × (s.position ≤ 4096) }
+    ensures words { w.new ≡ (rise_walk d s.key s.order s.cell s.position s.position 0 w.old).words }
+    ensures steps { result ≡ (rise_walk d s.key s.order s.cell s.position s.position 0 w.old).steps }
+    ensures few { result ≤ s.position }
+{
+    let mut steps = 0;
+    while let Some(q) = later_parent(w, d, s) {
+        take_seat(w, s.position, q.cell);
+        s.position = q.position;
         steps += 1;
     }
-    take_seat(w, at, c);
+    take_seat(w, s.position, s.cell);
     steps
 }
 
-// Carries cell c down from the hole at p of a heap of n, and says how many it passed.
-fn sink(w: &mut [u64], d: u64, n: u64, p: u64, c: u64, key: u64, order: u64) -> u64
-    requires { (1 ≤ d) × (d ≤ 8) × (p < n) × (n ≤ 4096) }
-    ensures words { w.new ≡ (sink_walk d n key order c n p 0 w.old).words }
-    ensures steps { result ≡ (sink_walk d n key order c n p 0 w.old).steps }
+// Carries an entry down from the hole where it is in a heap of n, and says how many it passed. One function with the step handed in is no
+// plainer: a rise ends at the root and a sink at n, so that each step would have to promise a bound of its own.
+fn sink(w: &mut [u64], d: u64, n: u64, mut s: Seat) -> u64
+    requires { (1 ≤ d) × (d ≤ 8) × (s.position < n) × (n ≤ 4096) }
+    ensures words { w.new ≡ (sink_walk d n s.key s.order s.cell n s.position 0 w.old).words }
+    ensures steps { result ≡ (sink_walk d n s.key s.order s.cell n s.position 0 w.old).steps }
+    ensures few { result < n }
 {
-    let mut at = p;
-    let mut steps: u64 = 0;
-    while d * at + 1 < n {
-        let q = earliest_child(w, d, n, d * at + 1);
-        if !is_before(q.key, q.order, key, order) {
-            take_seat(w, at, c);
-            return steps;
-        }
-        take_seat(w, at, q.cell);
-        at = q.position;
+    let mut steps = 0;
+    while let Some(q) = sooner_child(w, d, n, s) {
+        take_seat(w, s.position, q.cell);
+        s.position = q.position;
         steps += 1;
     }
-    take_seat(w, at, c);
+    take_seat(w, s.position, s.cell);
     steps
 }
 
 // Carries cell c to its place from the hole at p of a heap of n, up or else down, and says how many it passed.
+#[tactic(auto, unfolding(crate::specs::Seats::settle_walk))]
 fn settle(w: &mut [u64], d: u64, n: u64, p: u64, c: u64) -> u64
     requires { (1 ≤ d) × (d ≤ 8) × (p < n) × (n ≤ 4096) }
     ensures words { w.new ≡ (settle_walk d n p c w.old).words }
     ensures steps { result ≡ (settle_walk d n p c w.old).steps }
+    ensures few { result < n }
 {
-    let key = get(w, c, 2);
-    let order = get(w, c, 1);
-    if may_rise(w, d, p, key, order) {
-        return rise(w, d, p, c, key, order);
+    let s = seat_with(w, p, c);
+    if later_parent(w, d, s).is_some() {
+        return rise(w, d, s);
     }
-    sink(w, d, n, p, c, key, order)
+    sink(w, d, n, s)
 }
 
 // Whether a position p is in a heap of n, of an arity and a size that there may be.
+#[tactic(auto, unfolding(crate::specs::Seats::in_reach))]
 fn in_reach(d: u64, n: u64, p: u64) -> bool
     ensures { result ≡ in_reach d n p }
 {
-    if 1 <= d {
-        if d <= 8 {
-            if n <= 4096 {
-                return p < n;
-            }
-        }
-    }
-    false
+    (1..=8).contains(&d) && n <= 4096 && p < n
 }
 
 // Cell c enters a heap of n at its end, and rises; says how many entries moved. Nothing is done where there is no such heap.
+#[tactic(auto, unfolding(crate::specs::Seats::in_reach, crate::specs::Seats::enter_walk))]
 pub fn enter(w: &mut [u64], d: u64, n: u64, c: u64) -> u64
     ensures words { w.new ≡ (enter_walk d n c w.old).words }
     ensures steps { result ≡ (enter_walk d n c w.old).steps }
 {
-    if n < 4096 {
-        if in_reach(d, n + 1, n) {
-            let key = get(w, c, 2);
-            let order = get(w, c, 1);
-            return rise(w, d, n, c, key, order);
-        }
+    if n < 4096 && in_reach(d, n + 1, n) {
+        let s = seat_with(w, n, c);
+        return rise(w, d, s);
     }
     0
 }
 
 // The last entry of a heap of n fills position p, where n is at least 2 and p is not the last.
+#[tactic(auto, unfolding(crate::specs::Seats::refill_walk))]
 fn refill(w: &mut [u64], d: u64, n: u64, p: u64) -> u64
     requires { (1 ≤ d) × (d ≤ 8) × (p + 1 < n) × (n ≤ 4096) }
     ensures words { w.new ≡ (refill_walk d n p w.old).words }
@@ -279,7 +253,9 @@ fn refill(w: &mut [u64], d: u64, n: u64, p: u64) -> u64
     settle(w, d, n - 1, p, c) + 1
 }
 
-// Position p of a heap of n is left by its entry, and filled by the last; says how many entries moved. Nothing is done where there is no such position.
+// Position p of a heap of n is left by its entry, and filled by the last; says how many entries moved. Nothing is done where there is no
+// such position.
+#[tactic(auto, unfolding(crate::specs::Seats::in_reach, crate::specs::Seats::vacate_walk))]
 pub fn vacate(w: &mut [u64], d: u64, n: u64, p: u64) -> u64
     ensures words { w.new ≡ (vacate_walk d n p w.old).words }
     ensures steps { result ≡ (vacate_walk d n p w.old).steps }
@@ -294,8 +270,9 @@ pub fn vacate(w: &mut [u64], d: u64, n: u64, p: u64) -> u64
     refill(w, d, n, p)
 }
 
-// Cell c at position p of a heap of n has another key or order number, and settles again; says how many entries moved. Nothing is done where there is no
-// such position.
+// Cell c at position p of a heap of n has another key or order number, and settles again; says how many entries moved. Nothing is done
+// where there is no such position.
+#[tactic(auto, unfolding(crate::specs::Seats::in_reach, crate::specs::Seats::resettle_walk))]
 pub fn resettle(w: &mut [u64], d: u64, n: u64, p: u64, c: u64) -> u64
     ensures words { w.new ≡ (resettle_walk d n p c w.old).words }
     ensures steps { result ≡ (resettle_walk d n p c w.old).steps }

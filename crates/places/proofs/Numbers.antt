@@ -1,7 +1,7 @@
 -- Facts about quotients that the library lacks.
 -- Assumes nothing.
-use Prim.Native.Nat.{ℕ, zero, suc, ◌+◌, ◌/◌, ◌^◌, ◌≤◌, ◌<◌}
-use mathlib.Core.Path.{◌≡◌, sym, ap, ◌∙◌}
+use Prim.Native.Nat.{ℕ, zero, suc, ◌+◌, ◌*◌, ◌/◌, ◌%◌, ◌^◌, ◌≤◌, ◌<◌}
+use mathlib.Core.Path.{◌≡◌, refl, sym, ap, ◌∙◌}
 use native.Mathlib.Nat.{div-zero, div-div-eq-div-mul, div-mul-le_self, le-div_iff_mul-le, le_trans, zero-lt-suc, mul-zero, one-le-pow, pow-suc, pow-zero}
 use native.Mathlib.Omega.{arith}
 use lib.Pow.{pow-add}
@@ -33,3 +33,30 @@ power-positive b n p h l = one-le-pow p b (base-positive b n h l)
 pub exponent-positive : (b n : ℕ) {x y : ℕ} → x < y → y < b ^ n → 0 < n
 exponent-positive b zero h l = absurd (omega (arith, pow-zero b))
 exponent-positive b (suc n) h l = omega arith
+
+-- Six bits are a digit.
+pub pow-sixes : (p : ℕ) → 2 ^ (6 * p) ≡ 64 ^ p
+pow-sixes zero = refl
+pow-sixes (suc p) =
+    let six : 6 * suc p ≡ 6 * p + 6 = omega arith in
+    rw (six, pow-add 2 (6 * p) 6, pow-sixes p, pow-suc 64 p)
+
+-- The lowest digit's worth at a level, as a shift makes it.
+pub unit-is : (p : ℕ) → p < 6 → 1 * 2 ^ (6 * p) % 18446744073709551616 ≡ 64 ^ p
+unit-is zero h = refl
+unit-is (suc zero) h = refl
+unit-is (suc (suc zero)) h = refl
+unit-is (suc (suc (suc zero))) h = refl
+unit-is (suc (suc (suc (suc zero)))) h = refl
+unit-is (suc (suc (suc (suc (suc zero))))) h = refl
+unit-is (suc (suc (suc (suc (suc (suc p)))))) h = absurd (omega arith)
+
+-- A tick of 64 bits with another digit at a level, and zeros below, has 64 bits.
+pub tick_fits : (p t s : ℕ) → p < 6 → s < 64 → t < 18446744073709551616 → t / (64 * 64 ^ p) * (64 * 64 ^ p) + s * 64 ^ p < 18446744073709551616
+tick_fits zero t s h k l = omega arith
+tick_fits (suc zero) t s h k l = omega arith
+tick_fits (suc (suc zero)) t s h k l = omega arith
+tick_fits (suc (suc (suc zero))) t s h k l = omega arith
+tick_fits (suc (suc (suc (suc zero)))) t s h k l = omega arith
+tick_fits (suc (suc (suc (suc (suc zero))))) t s h k l = omega arith
+tick_fits (suc (suc (suc (suc (suc (suc p)))))) t s h k l = absurd (omega arith)

@@ -29,7 +29,9 @@ use Rattle.queue.specs.Answers.{Told}
 use Rattle.queue.specs.declared.head.Head as queue_head
 use Rattle.queue.proofs.Outcomes as queue_outcomes
 use Rattle.wheel.specs.Promise.{head_lists, DialShows, Promise, Advances}
-use Rattle.wheel.specs.declared.head.AdvanceAnswer.{AdvanceAnswer}
+use Rattle.cells.specs.declared.refusal.Refusal.{Refusal}
+use Rattle.wheel.specs.declared.head.Advanced.{Advanced}
+use Rattle.std.specs.Prelude.{Option, Some, None, Result}
 use Rattle.dial.specs.declared.state.Dial.{Dial}
 use Rattle.wheel.specs.declared.head.Head.{Head}
 use Rattle.wheel.proofs.AdvanceOutcome.{SameAdvance, one-advance}
@@ -118,17 +120,17 @@ one-hand-out w w' out out' t t' x e q =
     (same.lists.words, same.output, same.turn)
 
 -- Endings that are answered alike are one.
-ending-same : (a b : HowEnded) → ending_of a ≡ ending_of b → a ≡ b
+ending-same : (a b : Option HowEnded) → ending_of a ≡ ending_of b → a ≡ b
 unfolding ending_of
-ending-same how.Done how.Done e = refl
-ending-same how.Done how.More e = cc
-ending-same how.Done how.Broken e = cc
-ending-same how.More how.Done e = cc
-ending-same how.More how.More e = refl
-ending-same how.More how.Broken e = cc
-ending-same how.Broken how.Done e = cc
-ending-same how.Broken how.More e = cc
-ending-same how.Broken how.Broken e = refl
+ending-same (Some how.Done) (Some how.Done) e = refl
+ending-same (Some how.Done) (Some how.More) e = cc
+ending-same (Some how.Done) None e = cc
+ending-same (Some how.More) (Some how.Done) e = cc
+ending-same (Some how.More) (Some how.More) e = refl
+ending-same (Some how.More) None e = cc
+ending-same None (Some how.Done) e = cc
+ending-same None (Some how.More) e = cc
+ending-same None None e = refl
 
 -- `advance_turns` of dial.
 pub one-turns : (w w' first first' last last' marks marks' out out' : List ℕ) (r r' : TurnsEnded) (x : Ended)
@@ -153,7 +155,7 @@ one-in-place call w first last marks d m s a₁ a₂ w₁ first₁ last₁ marks
 
 -- The wheel's quick advance, and with `head_of` its advance in place, where a model is shown: output included.
 pub one-quick-advance : (target : ℕ) (h : Head) (w out : List ℕ) (m : Plain) → DialShows (head_lists h w) h.dial m
-    → (a₁ a₂ : AdvanceAnswer) (h₁ h₂ : Head) (w₁ w₂ out₁ out₂ : List ℕ)
+    → (a₁ a₂ : Result Advanced Refusal) (h₁ h₂ : Head) (w₁ w₂ out₁ out₂ : List ℕ)
     → Advances target (head_lists h w) h.dial out a₁ (head_lists h₁ w₁) h₁.dial out₁
     → Advances target (head_lists h w) h.dial out a₂ (head_lists h₂ w₂) h₂.dial out₂
     → SameAdvance target h w out a₁ a₂ h₁ h₂ w₁ w₂ out₁ out₂

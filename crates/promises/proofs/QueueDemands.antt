@@ -16,7 +16,7 @@ use Rattle.queue.specs.Answers.{Told}
 use Rattle.queue.specs.Promise.{Promise}
 use Rattle.queue.specs.SetUps.{set_up_answer}
 use Rattle.queue.specs.declared.head.Head.{Head}
-use Rattle.queue.specs.declared.head.SetUp.TheVariants as set_up
+use Rattle.std.specs.Prelude.{Ok}
 use Rattle.queue.proofs.Meets.{meets}
 use Rattle.queue.proofs.ModelRuns.{means-fresh}
 use Rattle.queue.proofs.SetUpShown.{set-up-ready}
@@ -43,7 +43,7 @@ queue-follows call s t s' p one h =
     )
 
 -- An accepted set-up leaves the fresh list.
-pub queue-begins : (w : List ℕ) (d : ℕ) (h : Head) → set_up_answer w d ≡ set_up.Ready h
+pub queue-begins : (w : List ℕ) (d : ℕ) (h : Head) → set_up_answer w d ≡ Ok h
     → Holds (begun w d h) (fresh (length w / 8) 0)
 unfolding fresh_model
 queue-begins w d h ready =

@@ -17,11 +17,13 @@ use Rattle.queue.specs.declared.head.Head as queue_head
 use Rattle.queue.proofs.Outcomes as queue_outcomes
 use Rattle.queue.proofs.ShownSound as queue_shown
 use Rattle.queue.proofs.SoundShown as queue_sound
-use Rattle.wheel.specs.Answers.{told_advance}
+use Rattle.wheel.specs.Answers.{told, told_advance}
 use Rattle.wheel.specs.Promise.{head_lists, Checked, CheckedAdvance}
 use Rattle.wheel_rules.specs.Rules.{WheelSound}
-use Rattle.wheel.specs.declared.head.AdvanceAnswer.{AdvanceAnswer}
-use Rattle.wheel.specs.declared.head.AdvanceAnswer.TheVariants as advance
+use Rattle.cells.specs.declared.refusal.Refusal.{Refusal}
+use Rattle.wheel.specs.declared.head.Advanced.{Advanced}
+use Rattle.std.specs.Prelude.{Result, Err}
+use Rattle.cells.specs.declared.refusal.Refusal.TheVariants as refusal
 use Rattle.wheel.specs.declared.head.Head.{Head}
 use Rattle.wheel.proofs.Outcomes.{answers-plain}
 use Rattle.wheel_rules.proofs.ShownSound.{shown-sound}
@@ -74,18 +76,18 @@ wheel-nine-exactly call h w a h' w' p = (
   λ none. (p.broken (λ m s. none (shown-sound (head_lists h w) h.dial m s))).0,
 )
 
-pub advance-nine-exactly : (target : ℕ) (h : Head) (w out : List ℕ) (r : AdvanceAnswer) (h' : Head) (w' out' : List ℕ)
+pub advance-nine-exactly : (target : ℕ) (h : Head) (w out : List ℕ) (r : Result Advanced Refusal) (h' : Head) (w' out' : List ℕ)
     → CheckedAdvance target h w out r h' w' out'
-    → (r ≡ advance.Refused 9) ↔ (WheelSound (head_lists h w) h.dial → ⊥)
-unfolding told_advance
+    → (r ≡ Err refusal.Unsound) ↔ (WheelSound (head_lists h w) h.dial → ⊥)
+unfolding told_advance told
 advance-nine-exactly target h w out r h' w' out' p = (
   λ e sound.
       let m = sound-shown (head_lists h w) h.dial sound in
       let call : Call = Advance target (length out / 4) in
-      let told : told_advance r out' ≡ Refused 9 = ap (λ (x : AdvanceAnswer). told_advance x out') e in
+      let says : told_advance r out' ≡ Refused 9 = ap (λ (x : Result Advanced Refusal). told_advance x out') e in
       not-nine 64 6 call (listed m.model)
       (sym
       (answers-plain call (head_lists h w) h.dial (told_advance r out') (head_lists h' w') h'.dial m.model p.advances.promise m.shows)
-      ∙ told),
+      ∙ says),
   λ none. (p.broken (λ m s. none (shown-sound (head_lists h w) h.dial m s))).0,
 )

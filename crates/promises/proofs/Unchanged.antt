@@ -20,19 +20,20 @@ use Rattle.queue.specs.Model.{Model}
 use Rattle.queue.specs.Promise as queue
 use Rattle.queue.specs.SetUps as queue_set_ups
 use Rattle.queue.specs.Shows as queue_shows
-use Rattle.queue.specs.declared.head.SetUp.TheVariants as queue_set_up
+use Rattle.std.specs.Prelude.{Result, Ok, Err}
+use Rattle.cells.specs.Causes.{refusal_of}
+use Rattle.cells.specs.declared.refusal.Refusal.{Refusal}
 use Rattle.queue.specs.declared.head.Head as queue_head
 use Rattle.queue.proofs.Audits as queue_audits
 use Rattle.queue.proofs.Outcomes.{refusal-leaves}
 use Rattle.queue.proofs.ShownSound as queue_shown
 use Rattle.queue.proofs.SoundShown as queue_sound
-use Rattle.wheel.specs.Answers.{report, told_advance, written}
+use Rattle.wheel.specs.Answers.{told, report, reported, told_advance, written}
 use Rattle.wheel_rules.specs.AuditTests.{audit_test}
 use Rattle.wheel.specs.Promise.{head_lists, DialShows, Broken, Promise, Advances, Checked, CheckedAdvance}
-use Rattle.wheel.specs.SetUps.{set_up_causes, set_up_answer, set_up_words}
-use Rattle.wheel.specs.declared.head.SetUpAnswer.TheVariants as set_up
-use Rattle.wheel.specs.declared.head.AdvanceAnswer.{AdvanceAnswer}
-use Rattle.wheel.specs.declared.head.AdvanceAnswer.TheVariants as advance
+use Rattle.wheel.specs.SetUps.{set_up_causes, set_up_head, set_up_answer, set_up_words}
+use Rattle.wheel.specs.declared.head.Advanced.{Advanced}
+use Rattle.wheel.specs.declared.head.Advanced.TheVariants as advanced
 use Rattle.dial.specs.declared.state.Dial.{Dial}
 use Rattle.wheel.specs.declared.head.Head.{Head}
 use Rattle.wheel_rules.proofs.Audits.{audit-decides}
@@ -48,30 +49,30 @@ use Rattle.promises.proofs.QueueDemands as queue_demands
 use Rattle.promises.proofs.WheelDemands.{promised}
 
 -- Where a set-up is refused, what stands beside its answer is what stands there for a refusal.
-refused-beside : {A B : Type 0} (refuse : ℕ → A) (accept : A) (x y : B) (i : ℕ) → (accept ≡ refuse i → ⊥) → (cs : List Cause)
-    → first_of cs refuse accept ≡ refuse i
+refused-beside : {A B : Type 0} (refuse : ℕ → A) (accept : A) (x y : B) (told : A) → (accept ≡ told → ⊥) → (cs : List Cause)
+    → first_of cs refuse accept ≡ told
     → first_of cs (λ j. x) y ≡ x
 unfolding first_of
-refused-beside refuse accept x y i n [] e = absurd (n e)
-refused-beside refuse accept x y i n (c ∷ cs) e = go c.applies e (refused-beside refuse accept x y i n cs)
+refused-beside refuse accept x y told n [] e = absurd (n e)
+refused-beside refuse accept x y told n (c ∷ cs) e = go c.applies e (refused-beside refuse accept x y told n cs)
   where
-    go : (t : Bool) → cond t (refuse c.number) (first_of cs refuse accept) ≡ refuse i
-        → (first_of cs refuse accept ≡ refuse i → first_of cs (λ j. x) y ≡ x)
+    go : (t : Bool) → cond t (refuse c.number) (first_of cs refuse accept) ≡ told
+        → (first_of cs refuse accept ≡ told → first_of cs (λ j. x) y ≡ x)
         → cond t x (first_of cs (λ j. x) y) ≡ x
     go true q f = refl
     go false q f = f q
 
 -- Of the queue's set-up, and of the wheel's.
-pub queue-set-up-refusal : (w : List ℕ) (d i : ℕ) → queue_set_ups.set_up_answer w d ≡ queue_set_up.Refused i → queue_set_ups.set_up_words w d ≡ w
+pub queue-set-up-refusal : (w : List ℕ) (d : ℕ) (r : Refusal) → queue_set_ups.set_up_answer w d ≡ Err r → queue_set_ups.set_up_words w d ≡ w
 unfolding queue_set_ups.set_up_answer queue_set_ups.set_up_words
-queue-set-up-refusal w d i e =
-    refused-beside (λ j. queue_set_up.Refused j) (queue_set_up.Ready (queue_set_ups.fresh_head w d)) w (fresh_words w) i
+queue-set-up-refusal w d r e =
+    refused-beside (λ j. Err (refusal_of j)) (Ok (queue_set_ups.fresh_head w d)) w (fresh_words w) (Err r)
     (λ q. let z : ◌≡◌ {A = ℕ} 0 1 = cc in omega arith) (queue_set_ups.set_up_causes w d) e
 
-pub wheel-set-up-refusal : (w : List ℕ) (t i : ℕ) → set_up_answer w t ≡ set_up.Refused i → set_up_words w t ≡ w
+pub wheel-set-up-refusal : (w : List ℕ) (t : ℕ) (r : Refusal) → set_up_answer w t ≡ Err r → set_up_words w t ≡ w
 unfolding set_up_answer set_up_words
-wheel-set-up-refusal w t i e =
-    refused-beside (λ j. set_up.Refused j) set_up.Ready w (fresh_words w) i
+wheel-set-up-refusal w t r e =
+    refused-beside (λ j. Err (refusal_of j)) (Ok (set_up_head w t)) w (fresh_words w) (Err r)
     (λ q. let z : ◌≡◌ {A = ℕ} 0 1 = cc in omega arith) (set_up_causes w t) e
 
 -- Head and words of a queue show a model or none.
@@ -130,11 +131,11 @@ stays-promised call l d a l' d' p r =
     }
 
 -- An advance that is refused has written no record.
-none_written : (r : AdvanceAnswer) (out : List ℕ) → is_refused (told_advance r out) ≡ true → written r ≡ 0
-unfolding told_advance report is_refused written
-none_written (advance.Refused i) out e = refl
-none_written (advance.Done k c v) out e = clash e refl
-none_written (advance.More k c v) out e = clash e refl
+none_written : (r : Result Advanced Refusal) (out : List ℕ) → is_refused (told_advance r out) ≡ true → written r ≡ 0
+unfolding told_advance told reported report is_refused written
+none_written (Err x) out e = refl
+none_written (Ok (advanced.Done k c v)) out e = clash e refl
+none_written (Ok (advanced.More k c v)) out e = clash e refl
 
 module _ (h : Head) (w : List ℕ) (h' : Head) (w' : List ℕ) where
   -- Of the wheel, quick or in place, where a model is shown.
@@ -149,7 +150,7 @@ module _ (h : Head) (w : List ℕ) (h' : Head) (w' : List ℕ) where
       (same.head, same.words)
 
   -- Of a quick advance there: "output included".
-  pub advance-refusal : (target : ℕ) (out : List ℕ) (r : AdvanceAnswer) (out' : List ℕ) (m : Plain) → DialShows (head_lists h w) h.dial m
+  pub advance-refusal : (target : ℕ) (out : List ℕ) (r : Result Advanced Refusal) (out' : List ℕ) (m : Plain) → DialShows (head_lists h w) h.dial m
       → Advances target (head_lists h w) h.dial out r (head_lists h' w') h'.dial out'
       → is_refused (told_advance r out') ≡ true
       → (h' ≡ h) × (w' ≡ w) × (out' ≡ out)
@@ -174,7 +175,7 @@ module _ (h : Head) (w : List ℕ) (h' : Head) (w' : List ℕ) where
       wheel-shown? (λ m s. wheel-quick-refusal call a m s p.promise r) (λ none. let b = p.broken none in (b.1, b.2))
 
   -- Of a checked advance, on any head, words and output whatever.
-  pub checked-advance-refusal : (target : ℕ) (out : List ℕ) (r : AdvanceAnswer) (out' : List ℕ) → CheckedAdvance target h w out r h' w' out'
+  pub checked-advance-refusal : (target : ℕ) (out : List ℕ) (r : Result Advanced Refusal) (out' : List ℕ) → CheckedAdvance target h w out r h' w' out'
       → is_refused (told_advance r out') ≡ true
       → (h' ≡ h) × (w' ≡ w) × (out' ≡ out)
   checked-advance-refusal target out r out' p e =

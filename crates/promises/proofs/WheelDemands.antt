@@ -18,13 +18,14 @@ use Rattle.meaning.proofs.Given.{given-free, free-given}
 use Rattle.dial.specs.Joined.{listed, step}
 use Rattle.dial.specs.Lent.{lists_of}
 use Rattle.dial.proofs.Listed.{step-plain}
-use Rattle.wheel.specs.Answers.{told_set_up}
+use Rattle.wheel.specs.Answers.{told, told_set_up}
 use Rattle.wheel.specs.Promise.{head_lists, Promise}
 use Rattle.wheel.specs.SetUps.{set_up_causes, empty_head, fresh_store, set_up_answer, set_up_head, set_up_words}
 use Rattle.dial.specs.declared.state.Dial.{Dial}
 use Rattle.wheel.specs.declared.head.Head.{Head}
-use Rattle.wheel.specs.declared.head.SetUpAnswer.{SetUpAnswer}
-use Rattle.wheel.specs.declared.head.SetUpAnswer.TheVariants as set_up
+use Rattle.std.specs.Prelude.{Result, Ok, Err}
+use Rattle.cells.specs.Causes.{refusal_of}
+use Rattle.cells.specs.declared.refusal.Refusal.{Refusal}
 use Rattle.wheel.proofs.SetUpShown.{set-up-shows}
 use Rattle.promises.specs.Made.{Lent, Made, Runs, calls_of}
 use Rattle.promises.specs.WheelRuns.{
@@ -99,18 +100,18 @@ module _ (s : Lent Head) (p : Plain) (h : Holds s p) where
     told-plain = run-answers OneCall (λ (a : Answer). a) Holds wheel-follows xs s p run h
 
 -- An accepted set-up leaves the fresh list.
-pub wheel-begins : (w : List ℕ) (t : ℕ) → set_up_answer w t ≡ set_up.Ready → Holds (begun w t) (fresh (length w / 8) t)
-unfolding set_up_answer set_up_head set_up_words set_up_causes beyond told_set_up is_refused listed arranged fresh
+pub wheel-begins : (w : List ℕ) (t : ℕ) → set_up_answer w t ≡ Ok (set_up_head w t) → Holds (begun w t) (fresh (length w / 8) t)
+unfolding set_up_answer set_up_words set_up_causes beyond told_set_up told is_refused listed arranged fresh
 wheel-begins w t ready =
     let free : Free (set_up_causes w t) =
-    free-given (λ (a : SetUpAnswer). is_refused (told_set_up a)) (λ i. set_up.Refused i) set_up.Ready (λ i. refl) (set_up_causes w t)
-    (ap (λ (a : SetUpAnswer). is_refused (told_set_up a)) ready) in
-    let head : set_up_head w t ≡ empty_head t (fresh_store w) = given-free _ _ (set_up_causes w t) free in
+    free-given (λ (a : Result Head Refusal). is_refused (told_set_up a)) (λ i. Err (refusal_of i)) (Ok (set_up_head w t)) (λ i. refl)
+    (set_up_causes w t)
+    (ap (λ (a : Result Head Refusal). is_refused (told_set_up a)) ready) in
     let words : set_up_words w t ≡ fresh_words w = given-free _ _ (set_up_causes w t) free in
     record {
       model = fresh (length w / 8) t;
       shows =
-          rw (head, words)
+          rw words
           (set-up-shows w t (size-some (length w / 8) free.0) (size-most (length w / 8) free.0)
           (ltb-false (last_tick 64 6) t free.1.0));
       list = refl;

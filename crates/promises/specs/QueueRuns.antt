@@ -1,6 +1,6 @@
 -- Runs of the ready queue's code.
 -- Assumes nothing.
-use Rattle.std.specs.Prelude.{ℕ, ◌/◌, List, [], ◌∷◌, ◌≡◌, length}
+use Rattle.std.specs.Prelude.{ℕ, ◌/◌, List, [], ◌∷◌, ◌≡◌, length, Ok}
 use Rattle.meaning.specs.Plain.{Plain, fresh}
 use Rattle.meaning.specs.Calls.{Call, Put, Answer, result}
 use Rattle.meaning.specs.Runs.{after}
@@ -12,7 +12,6 @@ use Rattle.queue.specs.Answers.{Told}
 use Rattle.queue.specs.Promise.{Promise, Checked}
 use Rattle.queue.specs.SetUps.{set_up_answer, set_up_words}
 use Rattle.queue.specs.declared.head.Head.{Head}
-use Rattle.queue.specs.declared.head.SetUp.TheVariants as set_up
 use Rattle.promises.specs.Made.{Lent, Made, Runs, calls_of, told_by, left_by}
 
 -- "Every operation comes twice": one call of the code, quick or checked. A call in place promises what the quick one does.
@@ -26,7 +25,7 @@ begun w d h = record { head = h; words = set_up_words w d }
 
 -- "From a set-up on": the set-up was accepted, and then the calls xs were made.
 pub record FromSetUp (w : List ℕ) (d : ℕ) (h : Head) (xs : List (Made Head Told)) : Type 0 where
-  pub ready : set_up_answer w d ≡ set_up.Ready h
+  pub ready : set_up_answer w d ≡ Ok h
   pub run : Runs OneCall (begun w d h) xs
 
 -- The answers that were told, and the moves.

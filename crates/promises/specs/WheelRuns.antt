@@ -1,6 +1,6 @@
 -- Runs of the wheel's code.
 -- Assumes nothing.
-use Rattle.std.specs.Prelude.{ℕ, ◌/◌, List, ◌≡◌, length}
+use Rattle.std.specs.Prelude.{ℕ, ◌/◌, List, ◌≡◌, length, Result, Ok}
 use Rattle.meaning.specs.Plain.{Plain, fresh}
 use Rattle.meaning.specs.Calls.{Call, Arm, Advance, OfWheel, Answer, result}
 use Rattle.meaning.specs.Runs.{after}
@@ -11,8 +11,8 @@ use Rattle.wheel.specs.Promise.{head_lists, DialShows, Promise, Advances, Checke
 use Rattle.wheel.specs.SetUps.{set_up_answer, set_up_head, set_up_words}
 use Rattle.dial.specs.declared.state.Dial.{Dial}
 use Rattle.wheel.specs.declared.head.Head.{Head}
-use Rattle.wheel.specs.declared.head.AdvanceAnswer.{AdvanceAnswer}
-use Rattle.wheel.specs.declared.head.SetUpAnswer.TheVariants as set_up
+use Rattle.cells.specs.declared.refusal.Refusal.{Refusal}
+use Rattle.wheel.specs.declared.head.Advanced.{Advanced}
 use Rattle.promises.specs.Demand3.{TellsAsOne}
 use Rattle.promises.specs.Made.{Lent, Made, Runs, calls_of, told_by, left_by}
 
@@ -30,13 +30,13 @@ pub data OneCall (call : Call) (s : Lent Head) (a : Answer) (s' : Lent Head) : T
   quick : OfWheel call → Promise call (lists s) s.head.dial a (lists s') s'.head.dial → OneCall call s a s'
   checked : OfWheel call → Checked call s.head s.words a s'.head s'.words → OneCall call s a s'
   quick_advance :
-      (target : ℕ) (out out' : List ℕ) (r : AdvanceAnswer)
+      (target : ℕ) (out out' : List ℕ) (r : Result Advanced Refusal)
       → call ≡ Advance target (length out / 4)
       → a ≡ told_advance r out'
       → Advances target (lists s) s.head.dial out r (lists s') s'.head.dial out'
       → OneCall call s a s'
   checked_advance :
-      (target : ℕ) (out out' : List ℕ) (r : AdvanceAnswer)
+      (target : ℕ) (out out' : List ℕ) (r : Result Advanced Refusal)
       → call ≡ Advance target (length out / 4)
       → a ≡ told_advance r out'
       → CheckedAdvance target s.head s.words out r s'.head s'.words out'
@@ -48,7 +48,7 @@ begun w t = record { head = set_up_head w t; words = set_up_words w t }
 
 -- "From a set-up on": the set-up was accepted, and then the calls xs were made.
 pub record FromSetUp (w : List ℕ) (t : ℕ) (xs : List (Made Head Answer)) : Type 0 where
-  pub ready : set_up_answer w t ≡ set_up.Ready
+  pub ready : set_up_answer w t ≡ Ok (set_up_head w t)
   pub run : Runs OneCall (begun w t) xs
 
 -- The answers that were told.

@@ -2,10 +2,10 @@
 -- Assumes nothing.
 use Prim.Native.Nat.{ℕ, ◌+◌, ◌-◌, ◌≤◌, ◌<◌}
 use native.Mathlib.Omega.{arith}
-use mathlib.Core.Bool.{Bool, true, false, cond, not, ◌&&◌}
+use mathlib.Core.Bool.{Bool, true, false, not, ◌&&◌}
 use mathlib.Core.List.{List}
 use mathlib.Core.Logic.{◌↔◌}
-use mathlib.Core.Path.{◌≡◌, refl, sym, ap, ◌∙◌}
+use mathlib.Core.Path.{◌≡◌, refl, sym, ◌∙◌}
 use lib.Dec.{leb, ltb, eqb}
 use borrow.Author.Tests.{leb-true, le-leb, ltb-true, lt-ltb, le-ltb, eqb-true, eq-eqb, ne_eqb, not-true}
 use Rattle.cells.specs.Words.{word}
@@ -13,7 +13,7 @@ use Rattle.cells.specs.Stack.{is_free, frees}
 use Rattle.cells.specs.Rules.{Sound}
 use Rattle.audits.specs.AuditTests.{all_below, shared_test}
 use Rattle.audits.specs.Verdicts.{Judged}
-use Rattle.audits.specs.declared.audit.Verdict.{Verdict}
+use Rattle.std.specs.Prelude.{Some}
 use Rattle.cells.proofs.Cases.{same?, at_most?, clash, and-true, or-true}
 use Rattle.audits.proofs.Below.{below_each, each_below}
 use Rattle.audits.proofs.Audits.{shared-decides}
@@ -182,38 +182,29 @@ module _ (w : List ℕ) (h : Head) where
   pub fails-head : (r : Bool) → r ≡ head_test h → r ≡ false → (false ≡ true) ↔ QueueSound w h
   fails-head r e = refuted r (λ q. e ∙ sound-head q)
 
-  -- After the shared part.
-  module _ (v : Verdict) (judged : Judged w h.store used_mask free_mask v) where
-    -- Where the shared rules fail it is not sound.
-    pub fails-shared : v.sound ≡ false → (false ≡ true) ↔ QueueSound w h
-    fails-shared e = refuted v.sound (λ q. judged.exact.1 q.shared) e
+  -- After the shared part, which counted the free cells.
+  module _ (free : ℕ) (judged : Judged w h.store used_mask free_mask (Some free)) where
+    -- Where there are more or fewer positions than entries it is not sound.
+    pub fails-count : (h.store.cells - h.count ≡ free → ⊥) → (false ≡ true) ↔ QueueSound w h
+    unfolding count_test
+    fails-count n = (
+      λ z. clash z refl,
+      λ q.
+          let same = eqb-true (h.count + frees w h.store.cells) h.store.cells (sound-count q) in
+          absurd (n (omega (arith, same, judged.count, q.fits))),
+    )
 
-    module _ (keeps : v.sound ≡ true) where
-      -- The free cells are counted.
-      free-counted : v.free ≡ frees w h.store.cells
-      free-counted = judged.count ∙ ap (λ (b : Bool). cond b (frees w h.store.cells) 0) keeps
-
-      -- Where there are more or fewer positions than entries it is not sound.
-      pub fails-count : (h.store.cells - h.count ≡ v.free → ⊥) → (false ≡ true) ↔ QueueSound w h
+    module _ (a : Bool) (head : a ≡ head_test h) (fits : a ≡ true) (same : h.store.cells - h.count ≡ free) where
+      count-passes : count_test w h ≡ true
       unfolding count_test
-      fails-count n = (
-        λ z. clash z refl,
-        λ q.
-            let same = eqb-true (h.count + frees w h.store.cells) h.store.cells (sound-count q) in
-            absurd (n (omega (arith, same, free-counted, q.fits))),
-      )
+      count-passes =
+          eq-eqb (h.count + frees w h.store.cells) h.store.cells
+          (omega (arith, same, judged.count, (head-rule h (sym head ∙ fits)).fits))
 
-      module _ (a : Bool) (head : a ≡ head_test h) (fits : a ≡ true) (same : h.store.cells - h.count ≡ v.free) where
-        count-passes : count_test w h ≡ true
-        unfolding count_test
-        count-passes =
-            eq-eqb (h.count + frees w h.store.cells) h.store.cells
-            (omega (arith, same, free-counted, (head-rule h (sym head ∙ fits)).fits))
-
-        -- What passes the others is sound exactly if it passes the last.
-        pub passes-all : (b r : Bool) → b ≡ seats_test → b ≡ true → r ≡ beyond_all → (r ≡ true) ↔ QueueSound w h
-        passes-all b r eb b' er =
-            (λ t. tests-sound (sym head ∙ fits) (judged.exact.0 keeps) count-passes (sym eb ∙ b') (sym er ∙ t), λ q. er ∙ sound-beyond q)
+      -- What passes the others is sound exactly if it passes the last.
+      pub passes-all : (b r : Bool) → b ≡ seats_test → b ≡ true → r ≡ beyond_all → (r ≡ true) ↔ QueueSound w h
+      passes-all b r eb b' er =
+          (λ t. tests-sound (sym head ∙ fits) (judged.exact.0 refl) count-passes (sym eb ∙ b') (sym er ∙ t), λ q. er ∙ sound-beyond q)
 
   -- Where a position fails it is not sound.
   pub fails-seats : (r : Bool) → r ≡ seats_test → r ≡ false → (false ≡ true) ↔ QueueSound w h

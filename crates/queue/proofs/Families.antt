@@ -13,7 +13,6 @@ use Rattle.cells.specs.Stack.{is_free}
 use Rattle.cells.proofs.Cases.{and-false}
 use Rattle.meaning.specs.Heap.{parent}
 use Rattle.heap.specs.Seats.{ranked, seat_at}
-use Rattle.heap.specs.declared.seats.Seat.{Seat}
 use Rattle.heap.proofs.Positions.{parent_of}
 use Rattle.queue.specs.AuditTests.{family_of, behind_test, seat_test, held_test}
 use Rattle.queue.specs.declared.audit.Family.{Family}
@@ -34,17 +33,6 @@ pub record Own (w : List ℕ) (d p : ℕ) (f : Family) : Type 0 where
   pub early : f.next ≤ p + 1
   pub root : f.next ≡ 0 → (f.key ≡ 0) × (f.order ≡ 0)
   pub parents : (q : ℕ) → f.next ≡ q + 1 → (f.key ≡ (seat_at w q).key) × (f.order ≡ (seat_at w q).order)
-
--- What the code finds: the next family, or the same.
-module _ (w : List ℕ) (d : ℕ) (f : Family) where
-  pub family-next : (a : Seat) → a ≡ seat_at w f.next → f.left ≡ 0
-      → ◌≡◌ {A = Family} (record { next = f.next + 1; left = d; key = a.key; order = a.order }) (family_of w d f)
-  unfolding family_of
-  family-next a e z = rw (eq-eqb f.left 0 z, ← e)
-
-  pub family-stays : (f.left ≡ 0 → ⊥) → f ≡ family_of w d f
-  unfolding family_of
-  family-stays n = rw (ne_eqb f.left 0 n)
 
 module _ (w : List ℕ) (d : ℕ) (wide : 1 ≤ d) where
   pub turn-root : Turn w d 0 (record { next = 0; left = 1; key = 0; order = 0 })

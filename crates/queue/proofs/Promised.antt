@@ -9,10 +9,11 @@ use lib.ListN.{length}
 use Rattle.cells.specs.Words.{word, put_word}
 use Rattle.cells.specs.Store.{no_free, spent, holds_ticket, draw_answer, draw_store, claim_answer, claim_store, claim_words, release_words, release_store}
 use Rattle.cells.specs.declared.store.Store.{Store}
-use Rattle.cells.specs.declared.store.ClaimAnswer.{ClaimAnswer}
-use Rattle.cells.specs.declared.store.ClaimAnswer.TheVariants as claim
-use Rattle.cells.specs.declared.store.DrawAnswer.{DrawAnswer}
-use Rattle.cells.specs.declared.store.DrawAnswer.TheVariants as draw
+use Rattle.std.specs.Prelude.{Ok, Err}
+use Rattle.cells.specs.Causes.{number_of}
+use Rattle.cells.specs.declared.refusal.Refusal.{Refusal}
+use Rattle.cells.specs.declared.refusal.Refusal.TheVariants as causes
+use Rattle.cells.specs.declared.store.Handle as handles
 use Rattle.cells.proofs.Cases.{test}
 use Rattle.cells.proofs.Claims.{claim-full, claim-spent, claim-taken, draw-spent, draw-taken}
 use Rattle.meaning.specs.Calls.{Call, Put, First, Take, Rekey, Remove, Handle, Changed, Load}
@@ -49,33 +50,37 @@ stays call h w t h' shown = framed-promise call h w t h' w (framed-none w) shown
 pub over : (call : Call) (h : Head) (w : List ℕ) (t : Told) (h' : Head) → 4096 < h.count → Promise call h w t h' w
 over call h w t h' l = stays call h w t h' (λ m s. absurd (omega (arith, l, s.count, (facts h w m s).fits, (facts h w m s).limit)))
 
+-- The head with another store.
+abbrev pub with_store : Head → Store → Head
+with_store h s = record { arity = h.arity; count = h.count; store = s }
+
 module _ (h : Head) (w : List ℕ) (key load : ℕ) where
   -- A put that the store refused.
-  pub put_refused : (answer : ClaimAnswer) (w₁ : List ℕ) (i : ℕ) → answer ≡ claim_answer h.store → answer ≡ claim.Refused i
-      → w₁ ≡ claim_words w h.store key load → Promise (Put key load) h w (refusal i) h w₁
-  put_refused answer w₁ i e q x =
+  pub put_refused : (r : Refusal) (store : Store) (w₁ : List ℕ) → Err r ≡ claim_answer h.store → store ≡ claim_store w h.store
+      → w₁ ≡ claim_words w h.store key load → Promise (Put key load) h w (refusal (number_of r)) (with_store h store) w₁
+  put_refused r store w₁ q st x =
       test (no_free h.store)
       (λ none.
       let known = claim-full w h.store key load none in
-      let six : ◌≡◌ {A = ℕ} i 6 = cc in
-      rw (x, known.2, six) (stays (Put key load) h w (refusal 6) h (λ m s. put_full h w m s key load none)))
+      let cause : ◌≡◌ {A = Refusal} r causes.Full = cc in
+      rw (x, st, known.1, known.2, cause) (stays (Put key load) h w (refusal 6) h (λ m s. put_full h w m s key load none)))
       (λ some.
       test (spent h.store)
       (λ full.
       let known = claim-spent w h.store key load some full in
-      let eight : ◌≡◌ {A = ℕ} i 8 = cc in
-      rw (x, known.2, eight) (stays (Put key load) h w (refusal 8) h (λ m s. put-spent h w m s key load some full)))
+      let cause : ◌≡◌ {A = Refusal} r causes.Spent = cc in
+      rw (x, st, known.1, known.2, cause) (stays (Put key load) h w (refusal 8) h (λ m s. put-spent h w m s key load some full)))
       (λ left.
       let known = claim-taken w h.store key load some left in
       let z : ◌≡◌ {A = ℕ} 0 1 = cc in
       absurd (omega arith)))
 
   -- A put that took a cell, which then entered the heap.
-  pub put-entered : (answer : ClaimAnswer) (store : Store) (w₁ w₂ : List ℕ) (c k moves : ℕ) → answer ≡ claim_answer h.store → answer ≡ claim.Taken c k
+  pub put-entered : (at : handles.Handle) (store : Store) (w₁ w₂ : List ℕ) (moves : ℕ) → Ok at ≡ claim_answer h.store
       → store ≡ claim_store w h.store → w₁ ≡ claim_words w h.store key load
-      → w₂ ≡ (enter_walk h.arity h.count c w₁).words → moves ≡ (enter_walk h.arity h.count c w₁).steps
-      → Promise (Put key load) h w (told (Handle c k) moves) (record { arity = h.arity; count = h.count + 1; store = store }) w₂
-  put-entered answer store w₁ w₂ c k moves e q st x y z =
+      → w₂ ≡ (enter_walk h.arity h.count at.cell w₁).words → moves ≡ (enter_walk h.arity h.count at.cell w₁).steps
+      → Promise (Put key load) h w (told (Handle at.cell at.ticket) moves) (record { arity = h.arity; count = h.count + 1; store = store }) w₂
+  put-entered at store w₁ w₂ moves q st x y z =
       test (no_free h.store)
       (λ none.
       let known = claim-full w h.store key load none in
@@ -89,11 +94,10 @@ module _ (h : Head) (w : List ℕ) (key load : ℕ) where
       absurd (omega arith))
       (λ left.
       let known = claim-taken w h.store key load some left in
-      let cell : ◌≡◌ {A = ℕ} c h.store.free = cc in
-      let ticket : ◌≡◌ {A = ℕ} k h.store.counter = cc in
+      let whole : ◌≡◌ {A = handles.Handle} at (record { cell = h.store.free; ticket = h.store.counter }) = cc in
       let first : Framed w w₁ = rw (x, known.2) (entered-framed w h.store.free h.store.counter key load) in
-      framed-promise (Put key load) h w _ _ w₂ (framed-on w w₁ w₂ first (rw y (enter-framed h.arity h.count c w₁)))
-      (rw (y, z, x, st, cell, ticket, known.1, known.2)
+      framed-promise (Put key load) h w _ _ w₂ (framed-on w w₁ w₂ first (rw y (enter-framed h.arity h.count at.cell w₁)))
+      (rw (y, z, x, st, whole, known.1, known.2)
       (put-promised h w key load some left
       (λ m s.
       let r = put-ready h w m s key load some in
@@ -174,26 +178,26 @@ module _ (h : Head) (w : List ℕ) (c k : ℕ) where
     rekey-refused e = stays (Rekey c k key) h w (refusal 7) h (λ m s. rekey-stale h w m s c k key e)
 
     -- A counter that is spent.
-    pub rekey-full : (answer : DrawAnswer) (i : ℕ) → holds_ticket w h.store c k ≡ true → answer ≡ draw_answer h.store → answer ≡ draw.Refused i
-        → Promise (Rekey c k key) h w (refusal i) h w
-    rekey-full answer i t e q =
+    pub rekey-full : (r : Refusal) (store : Store) → holds_ticket w h.store c k ≡ true → Err r ≡ draw_answer h.store
+        → store ≡ draw_store h.store → Promise (Rekey c k key) h w (refusal (number_of r)) (with_store h store) w
+    rekey-full r store t q st =
         test (spent h.store)
         (λ full.
         let known = draw-spent h.store full in
-        let eight : ◌≡◌ {A = ℕ} i 8 = cc in
-        rw eight (stays (Rekey c k key) h w (refusal 8) h (λ m s. rekey-spent h w m s c k key t full)))
+        let cause : ◌≡◌ {A = Refusal} r causes.Spent = cc in
+        rw (st, known.1, cause) (stays (Rekey c k key) h w (refusal 8) h (λ m s. rekey-spent h w m s c k key t full)))
         (λ left.
         let known = draw-taken h.store left in
         let z : ◌≡◌ {A = ℕ} 0 1 = cc in
         absurd (omega arith))
 
     -- A rekey of the entry that the handle names.
-    pub rekeyed-all : (answer : DrawAnswer) (store : Store) (w₂ : List ℕ) (order moves : ℕ) → holds_ticket w h.store c k ≡ true
-        → answer ≡ draw_answer h.store → answer ≡ draw.Number order → store ≡ draw_store h.store
+    pub rekeyed-all : (store : Store) (w₂ : List ℕ) (order moves : ℕ) → holds_ticket w h.store c k ≡ true
+        → Ok order ≡ draw_answer h.store → store ≡ draw_store h.store
         → w₂ ≡ (resettle_walk h.arity h.count (word w c 5) c (put_word (put_word w c 1 order) c 2 key)).words
         → moves ≡ (resettle_walk h.arity h.count (word w c 5) c (put_word (put_word w c 1 order) c 2 key)).steps
-        → Promise (Rekey c k key) h w (told Changed moves) (record { arity = h.arity; count = h.count; store = store }) w₂
-    rekeyed-all answer store w₂ order moves t e q st x y =
+        → Promise (Rekey c k key) h w (told Changed moves) (with_store h store) w₂
+    rekeyed-all store w₂ order moves t q st x y =
         test (spent h.store)
         (λ full.
         let known = draw-spent h.store full in

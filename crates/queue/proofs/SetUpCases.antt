@@ -8,14 +8,11 @@ use mathlib.Core.Path.{◌≡◌}
 use lib.ListN.{length}
 use borrow.Author.Tests.{lt-ltb, le-ltb}
 use Rattle.cells.specs.Store.{wrong_size, fresh_words}
-use Rattle.cells.specs.Store as store
-use Rattle.cells.specs.declared.store.Store.{Store}
-use Rattle.cells.specs.declared.store.SetUp as stores
-use Rattle.cells.specs.declared.store.SetUp.TheVariants as made
-use Rattle.cells.proofs.Fresh.{set-up-right}
+use Rattle.std.specs.Prelude.{Ok, Err}
+use Rattle.cells.specs.Causes.{refusal_of}
+use Rattle.cells.specs.declared.refusal.Refusal.TheVariants as causes
 use Rattle.meaning.specs.Refusals.{first_of, bad_size, bad_arity}
 use Rattle.queue.specs.SetUps.{set_up_causes, fresh_head, set_up_answer, set_up_words}
-use Rattle.queue.specs.declared.head.SetUp.TheVariants as set_up
 
 -- An arity that is too small.
 pub arity-under : (d : ℕ) → d < 2 → (bad_arity d).applies ≡ true
@@ -34,32 +31,17 @@ arity-right d some most = rw (le-ltb d 2 some, le-ltb 8 d most)
 
 module _ (w : List ℕ) (d : ℕ) where
   -- A wrong size is refused with 1, whatever the arity.
-  pub refused-size : wrong_size (length w / 8) ≡ true → (set_up.Refused 1 ≡ set_up_answer w d) × (w ≡ set_up_words w d)
-  unfolding set_up_answer set_up_words set_up_causes first_of bad_size
+  pub refused-size : wrong_size (length w / 8) ≡ true → (Err causes.BadSize ≡ set_up_answer w d) × (w ≡ set_up_words w d)
+  unfolding set_up_answer set_up_words set_up_causes first_of bad_size refusal_of
   refused-size e = (rw e, rw e)
 
   module _ (right : wrong_size (length w / 8) ≡ false) where
     -- A wrong arity is refused with 2 where the size is right.
-    pub refused-arity : (bad_arity d).applies ≡ true → (set_up.Refused 2 ≡ set_up_answer w d) × (w ≡ set_up_words w d)
-    unfolding set_up_answer set_up_words set_up_causes first_of bad_size bad_arity
+    pub refused-arity : (bad_arity d).applies ≡ true → (Err causes.BadArity ≡ set_up_answer w d) × (w ≡ set_up_words w d)
+    unfolding set_up_answer set_up_words set_up_causes first_of bad_size bad_arity refusal_of
     refused-arity e = (rw (right, e), rw (right, e))
 
     -- Where both are right the queue is set up.
-    pub accepted-both : (bad_arity d).applies ≡ false → (set_up_answer w d ≡ set_up.Ready (fresh_head w d)) × (set_up_words w d ≡ fresh_words w)
+    pub accepted-both : (bad_arity d).applies ≡ false → (set_up_answer w d ≡ Ok (fresh_head w d)) × (set_up_words w d ≡ fresh_words w)
     unfolding set_up_answer set_up_words set_up_causes first_of bad_size
     accepted-both e = (rw (right, e), rw (right, e))
-
-module _ (w : List ℕ) (right : wrong_size (length w / 8) ≡ false) where
-  -- At a right size the cell store is set up.
-  pub store-ready : (result : stores.SetUp) (s : Store) → result ≡ store.set_up_answer w → result ≡ made.Ready s
-      → s ≡ record { cells = length w / 8; free = 0; counter = 1 }
-  store-ready result s e q =
-      let ready = (set-up-right w right).0 in
-      cc
-
-  -- It is not refused there.
-  pub store-stands : (result : stores.SetUp) (i : ℕ) → result ≡ store.set_up_answer w → result ≡ made.Refused i → ⊥
-  store-stands result i e q =
-      let ready = (set-up-right w right).0 in
-      let z : ◌≡◌ {A = ℕ} 0 1 = cc in
-      omega arith

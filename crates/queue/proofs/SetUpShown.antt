@@ -16,7 +16,8 @@ use Rattle.queue.specs.Model.{fresh_model}
 use Rattle.queue.specs.Shows.{Shows}
 use Rattle.queue.specs.SetUps.{set_up_causes, fresh_head, set_up_answer, set_up_words}
 use Rattle.queue.specs.declared.head.Head.{Head}
-use Rattle.queue.specs.declared.head.SetUp.TheVariants as set_up
+use Rattle.std.specs.Prelude.{Ok, Err}
+use Rattle.cells.specs.declared.refusal.Refusal.{Refusal}
 use Rattle.queue.proofs.ModelRuns.{means-fresh}
 use Rattle.queue.proofs.SetUpCases.{arity-under, arity-over, arity-right, refused-size, refused-arity, accepted-both}
 
@@ -54,10 +55,10 @@ module _ (w : List ℕ) where
       (λ f. fresh-tail w)
 
   -- "From a set-up on": where set-up answers with a head, that head and the words afterwards show the fresh model.
-  pub set-up-ready : (d : ℕ) (h : Head) → set_up_answer w d ≡ set_up.Ready h → Shows h (set_up_words w d) (fresh_model d (length w / 8))
+  pub set-up-ready : (d : ℕ) (h : Head) → set_up_answer w d ≡ Ok h → Shows h (set_up_words w d) (fresh_model d (length w / 8))
   set-up-ready d h e =
       same? n 0
-      (λ q. never 1 (refused-size w d (size_none n q)).0)
+      (λ q. never _ (refused-size w d (size_none n q)).0)
       (λ q.
       at_most? n 4096
       (λ most.
@@ -69,12 +70,12 @@ module _ (w : List ℕ) where
       let both = accepted-both w d right (arity-right d least limit) in
       let same : fresh_head w d ≡ h = cc in
       rw (← same, both.1) (set-up-shows d (omega arith) most least limit))
-      (λ l. never 2 (refused-arity w d right (arity-over d l)).0))
-      (λ l. never 2 (refused-arity w d right (arity-under d l)).0))
-      (λ l. never 1 (refused-size w d (size-over n l)).0))
+      (λ l. never _ (refused-arity w d right (arity-over d l)).0))
+      (λ l. never _ (refused-arity w d right (arity-under d l)).0))
+      (λ l. never _ (refused-size w d (size-over n l)).0))
     where
       n : ℕ
       n = length w / 8
 
-      never : (i : ℕ) → set_up.Refused i ≡ set_up_answer w d → Shows h (set_up_words w d) (fresh_model d (length w / 8))
-      never i q = let z : ◌≡◌ {A = ℕ} 0 1 = cc in absurd (omega arith)
+      never : (r : Refusal) → Err r ≡ set_up_answer w d → Shows h (set_up_words w d) (fresh_model d (length w / 8))
+      never r q = let z : ◌≡◌ {A = ℕ} 0 1 = cc in absurd (omega arith)

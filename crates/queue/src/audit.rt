@@ -23,38 +23,34 @@ pub struct Family {
 }
 
 // The family of the position in turn: the next parent's where no child of this one is left.
+#[tactic(auto, unfolding(crate::specs::AuditTests::family_of))]
 fn family_of(w: &[u64], d: u64, f: Family) -> Family
     requires { f.next < 18446744073709551615 }
     ensures { result ≡ family_of w.now d f }
 {
-    if f.left == 0 {
-        let parent = look(w, f.next);
-        return Family {
-            next: f.next + 1,
-            left: d,
-            key: parent.key,
-            order: parent.order,
-        };
+    if f.left != 0 {
+        return f;
     }
-    f
+    let parent = look(w, f.next);
+    Family {
+        next: f.next + 1,
+        left: d,
+        key: parent.key,
+        order: parent.order,
+    }
 }
 
 // Whether position p, a filled one, holds a cell in use of the first n that knows it and is not before a parent of this key and order
 // number.
+#[tactic(auto, unfolding(crate::specs::AuditTests::held_test))]
 fn seat_sound(w: &[u64], n: u64, p: u64, key: u64, order: u64) -> bool
     ensures { result ≡ held_test w.now n p key order }
 {
     let c = get(w, p, 6);
-    if c >= n {
-        return false;
-    }
-    if is_free(w, c) {
-        return false;
-    }
-    if get(w, c, 5) == p {
-        return !is_before(get(w, c, 2), get(w, c, 1), key, order);
-    }
-    false
+    c < n
+        && !is_free(w, c)
+        && get(w, c, 5) == p
+        && !is_before(get(w, c, 2), get(w, c, 1), key, order)
 }
 
 // Whether each of the filled positions keeps to the rules. The root's family has one child, and a parent that nothing is before.
@@ -68,14 +64,12 @@ fn seats_sound(w: &[u64], d: u64, n: u64, count: u64) -> bool
         key: 0,
         order: 0,
     };
-    let mut p: u64 = 0;
-    while p < count {
+    for p in 0..count {
         f = family_of(w, d, f);
         if !seat_sound(w, n, p, f.key, f.order) {
             return false;
         }
         f.left -= 1;
-        p += 1;
     }
     true
 }
@@ -84,47 +78,34 @@ fn seats_sound(w: &[u64], d: u64, n: u64, count: u64) -> bool
 fn rest_blank(w: &[u64], count: u64, n: u64) -> bool
     ensures { result ≡ all_below n (beyond_test w.now count) }
 {
-    let mut p = count;
-    while p < n {
-        if get(w, p, 6) != 0 {
-            return false;
-        }
-        p += 1;
-    }
-    true
+    (count..n).all(|p| get(w, p, 6) == 0)
 }
 
 // Whether the arity is 2 to 8, and there are no more entries than cells.
-fn head_sound(h: Head) -> bool
-    ensures { result ≡ head_test h }
+#[tactic(auto, unfolding(crate::specs::AuditTests::head_test))]
+fn head_sound(h: &Head) -> bool
+    ensures { result ≡ head_test h.now }
 {
-    let s = h.store;
-    if 2 <= h.arity {
-        if h.arity <= 8 {
-            return h.count <= s.cells;
-        }
-    }
-    false
+    let Head {
+        arity,
+        count,
+        store,
+    } = *h;
+    (2..=8).contains(&arity) && count <= store.cells
 }
 
 // Whether head and memory keep to the rules. As many cells are in use as positions are filled, and each of these holds a cell in use that
 // knows it: so each entry stands at one of them.
-pub fn audit(w: &[u64], h: Head) -> bool
-    ensures { (result ≡ true) ↔ QueueSound w.now h }
+pub fn audit(w: &[u64], h: &Head) -> bool
+    ensures { (result ≡ true) ↔ QueueSound w.now h.now }
 {
     if !head_sound(h) {
         return false;
     }
-    let s = h.store;
-    let shared = audit_and_count(w, s, 144, 175);
-    if !shared.sound {
+    let Some(free) = audit_and_count(w, h.store, 144, 175) else {
         return false;
-    }
-    if s.cells - h.count != shared.free {
-        return false;
-    }
-    if !seats_sound(w, h.arity, s.cells, h.count) {
-        return false;
-    }
-    rest_blank(w, h.count, s.cells)
+    };
+    h.store.cells - h.count == free
+        && seats_sound(w, h.arity, h.store.cells, h.count)
+        && rest_blank(w, h.count, h.store.cells)
 }

@@ -1,6 +1,6 @@
-// The ready queue's head, and what its calls answer: either a refusal by its number, or the result with its data.
+// The ready queue's head, and what its calls answer beside a refusal.
 
-use cells::store::Store;
+use cells::store::{Handle, Store};
 
 // The arity, the number of entries, and the cell store's head.
 #[derive(Clone, Copy)]
@@ -19,66 +19,23 @@ pub struct Found {
     pub load: u64,
 }
 
+// What a put answers: the new entry's handle, and the moves.
 #[derive(Clone, Copy)]
-pub enum SetUp {
-    Refused(u64),
-    Ready(Head),
+pub struct Entered {
+    pub at: Handle,
+    pub moves: u64,
 }
 
-// Entered holds the cell, the ticket and the moves.
+// What a take answers: the entry, and the moves.
 #[derive(Clone, Copy)]
-pub enum PutAnswer {
-    Refused(u64),
-    Entered(u64, u64, u64),
+pub struct Taken {
+    pub found: Found,
+    pub moves: u64,
 }
 
+// What a remove answers: the load, and the moves.
 #[derive(Clone, Copy)]
-pub struct PutDone {
-    pub answer: PutAnswer,
-    pub head: Head,
-}
-
-#[derive(Clone, Copy)]
-pub enum FirstAnswer {
-    Refused(u64),
-    Stands(Found),
-}
-
-// Took holds the moves too.
-#[derive(Clone, Copy)]
-pub enum TakeAnswer {
-    Refused(u64),
-    Took(Found, u64),
-}
-
-#[derive(Clone, Copy)]
-pub struct TakeDone {
-    pub answer: TakeAnswer,
-    pub head: Head,
-}
-
-// Rekeyed holds the moves.
-#[derive(Clone, Copy)]
-pub enum RekeyAnswer {
-    Refused(u64),
-    Rekeyed(u64),
-}
-
-#[derive(Clone, Copy)]
-pub struct RekeyDone {
-    pub answer: RekeyAnswer,
-    pub head: Head,
-}
-
-// Removed holds the load and the moves.
-#[derive(Clone, Copy)]
-pub enum RemoveAnswer {
-    Refused(u64),
-    Removed(u64, u64),
-}
-
-#[derive(Clone, Copy)]
-pub struct RemoveDone {
-    pub answer: RemoveAnswer,
-    pub head: Head,
+pub struct Removed {
+    pub load: u64,
+    pub moves: u64,
 }

@@ -4,6 +4,5 @@
 pub mod audit;
 pub mod checked;
 pub mod head;
-pub mod in_place;
 pub mod quick;
 pub mod setup;

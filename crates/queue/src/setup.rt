@@ -3,33 +3,26 @@
 ghost use Rattle.std.specs.Prelude.{◌≡◌};
 ghost use Rattle.queue.specs.SetUps.{set_up_answer, set_up_words};
 
-use crate::head::{Head, SetUp};
+use crate::head::Head;
+use cells::refusal::Refusal;
 
-// Sets an empty queue of arity d up in the lent words, refused with 1 unless there are 1 to 4096 cells, then with 2 unless d is 2 to 8.
-pub fn set_up(w: &mut [u64], d: u64) -> SetUp
+// Sets an empty queue of arity d up in the lent words, refused unless there are 1 to 4096 cells, then unless d is 2 to 8.
+#[tactic(auto, unfolding(crate::specs::SetUps::set_up_answer, crate::specs::SetUps::set_up_words, crate::specs::SetUps::set_up_causes, meaning::specs::Refusals::first_of, meaning::specs::Refusals::bad_size, meaning::specs::Refusals::bad_arity, cells::specs::Store::wrong_size, cells::specs::Store::set_up_answer, cells::specs::Store::set_up_words, cells::specs::Causes::refusal_of))]
+pub fn set_up(w: &mut [u64], d: u64) -> Result<Head, Refusal>
     ensures answer { result ≡ set_up_answer w.old d }
     ensures words { w.new ≡ set_up_words w.old d }
 {
     let n = w.len() / 8;
-    if n == 0 {
-        return SetUp::Refused(1);
+    if n == 0 || n > 4096 {
+        return Err(Refusal::BadSize);
     }
-    if n > 4096 {
-        return SetUp::Refused(1);
+    if d < 2 || d > 8 {
+        return Err(Refusal::BadArity);
     }
-    if d < 2 {
-        return SetUp::Refused(2);
-    }
-    if d > 8 {
-        return SetUp::Refused(2);
-    }
-    let made = cells::store::set_up(w);
-    match made {
-        cells::store::SetUp::Refused(i) => SetUp::Refused(i),
-        cells::store::SetUp::Ready(store) => SetUp::Ready(Head {
-            arity: d,
-            count: 0,
-            store: store,
-        }),
-    }
+    let store = cells::store::set_up(w)?;
+    Ok(Head {
+        arity: d,
+        count: 0,
+        store,
+    })
 }

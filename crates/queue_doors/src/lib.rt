@@ -2,8 +2,10 @@
 // are modest: what it is proved to do is to end, and to stay within the lent words. What the queue's calls do is promised where they stand.
 #![tactic(auto)]
 
-use queue::head::{Head, PutAnswer, RekeyAnswer, RemoveAnswer, SetUp, TakeAnswer};
-use queue::in_place::{put, rekey, remove, take};
+use cells::refusal::Refusal;
+use cells::store::Handle;
+use queue::head::{Head, Taken};
+use queue::quick::{put, rekey, remove, take};
 use queue::setup::set_up;
 
 // Where a trace stands: the queue's head, and the sum of what came out.
@@ -13,18 +15,21 @@ struct Run {
     sum: u64,
 }
 
+// What an operation does, in the order of their numbers in a trace.
+#[derive(Clone, Copy)]
+enum Kind {
+    Put,
+    Take,
+    Rekey,
+    Remove,
+}
+
 // An operation: its kind, the slot of its handle, and its key.
 #[derive(Clone, Copy)]
 struct Operation {
-    kind: u64,
+    kind: Kind,
     slot: u64,
     key: u64,
-}
-
-#[derive(Clone, Copy)]
-struct Handle {
-    cell: u64,
-    ticket: u64,
 }
 
 // The sum with one number more; its order counts.
@@ -47,11 +52,11 @@ fn write(w: &mut [u64], j: u64, x: u64) {
     }
 }
 
-// Keeps the handle (c, k) in a slot: at most 2^62 - 1, as a trace has it.
-fn keep(handles: &mut [u64], slot: u64, c: u64, k: u64) {
+// Keeps a handle in a slot: at most 2^62 - 1, as a trace has it.
+fn keep(handles: &mut [u64], slot: u64, at: Handle) {
     let j = slot % 4611686018427387904 * 2;
-    write(handles, j, c);
-    write(handles, j + 1, k);
+    write(handles, j, at.cell);
+    write(handles, j + 1, at.ticket);
 }
 
 // The handle in a slot.
@@ -63,106 +68,92 @@ fn kept(handles: &[u64], slot: u64) -> Handle {
     }
 }
 
-// Puts an entry in, and keeps its handle.
-fn run_put(w: &mut [u64], handles: &mut [u64], r: Run, slot: u64, key: u64, load: u64) -> Run {
-    let done = put(w, r.head, key, load);
-    let answer = done.answer;
-    let head = done.head;
-    match answer {
-        PutAnswer::Refused(i) => Run {
-            head,
-            sum: mix(r.sum, i),
-        },
-        PutAnswer::Entered(c, k, moves) => {
-            keep(handles, slot, c, k);
-            Run { head, sum: r.sum }
+impl Kind {
+    // The kind of a number below 4; of any other the last.
+    fn of(number: u64) -> Kind {
+        match number {
+            0 => Kind::Put,
+            1 => Kind::Take,
+            2 => Kind::Rekey,
+            _ => Kind::Remove,
         }
     }
 }
 
-// Takes the first entry out: its key and its load are summed.
-fn run_take(w: &mut [u64], r: Run) -> Run {
-    let done = take(w, r.head);
-    let answer = done.answer;
-    let head = done.head;
-    match answer {
-        TakeAnswer::Refused(i) => Run {
-            head,
-            sum: mix(r.sum, i),
-        },
-        TakeAnswer::Took(top, moves) => Run {
-            head,
-            sum: mix(mix(r.sum, top.key), top.load),
-        },
+impl Run {
+    // Sums one number more.
+    fn add(&mut self, x: u64) {
+        self.sum = mix(self.sum, x);
+    }
+
+    // Puts an entry in, and keeps its handle.
+    fn put(
+        &mut self,
+        w: &mut [u64],
+        handles: &mut [u64],
+        o: Operation,
+        load: u64,
+    ) -> Result<(), Refusal> {
+        let done = put(w, &mut self.head, o.key, load)?;
+        keep(handles, o.slot, done.at);
+        Ok(())
+    }
+
+    // Takes the first entry out: its key and its load are summed.
+    fn take(&mut self, w: &mut [u64]) -> Result<(), Refusal> {
+        let Taken { found, .. } = take(w, &mut self.head)?;
+        self.add(found.key);
+        self.add(found.load);
+        Ok(())
+    }
+
+    // Gives the entry of a slot another key.
+    fn rekey(&mut self, w: &mut [u64], handles: &[u64], o: Operation) -> Result<(), Refusal> {
+        rekey(w, &mut self.head, kept(handles, o.slot), o.key)?;
+        Ok(())
+    }
+
+    // Takes the entry of a slot out: its load is summed.
+    fn remove(&mut self, w: &mut [u64], handles: &[u64], o: Operation) -> Result<(), Refusal> {
+        let done = remove(w, &mut self.head, kept(handles, o.slot))?;
+        self.add(done.load);
+        Ok(())
+    }
+
+    // Runs one operation; a put's load is the operation's number.
+    fn run(
+        &mut self,
+        w: &mut [u64],
+        handles: &mut [u64],
+        o: Operation,
+        load: u64,
+    ) -> Result<(), Refusal> {
+        match o.kind {
+            Kind::Put => self.put(w, handles, o, load),
+            Kind::Take => self.take(w),
+            Kind::Rekey => self.rekey(w, handles, o),
+            Kind::Remove => self.remove(w, handles, o),
+        }
     }
 }
 
-// Gives the entry of a slot another key.
-fn run_rekey(w: &mut [u64], handles: &[u64], r: Run, slot: u64, key: u64) -> Run {
-    let at = kept(handles, slot);
-    let done = rekey(w, r.head, at.cell, at.ticket, key);
-    let answer = done.answer;
-    let head = done.head;
-    match answer {
-        RekeyAnswer::Refused(i) => Run {
-            head,
-            sum: mix(r.sum, i),
-        },
-        RekeyAnswer::Rekeyed(moves) => Run { head, sum: r.sum },
-    }
-}
-
-// Takes the entry of a slot out: its load is summed.
-fn run_remove(w: &mut [u64], handles: &[u64], r: Run, slot: u64) -> Run {
-    let at = kept(handles, slot);
-    let done = remove(w, r.head, at.cell, at.ticket);
-    let answer = done.answer;
-    let head = done.head;
-    match answer {
-        RemoveAnswer::Refused(i) => Run {
-            head,
-            sum: mix(r.sum, i),
-        },
-        RemoveAnswer::Removed(load, moves) => Run {
-            head,
-            sum: mix(r.sum, load),
-        },
-    }
-}
-
-// Runs one operation; a put's load is the operation's number.
-fn run_one(w: &mut [u64], handles: &mut [u64], r: Run, o: Operation, load: u64) -> Run {
-    if o.kind == 0 {
-        return run_put(w, handles, r, o.slot, o.key, load);
-    }
-    if o.kind == 1 {
-        return run_take(w, r);
-    }
-    if o.kind == 2 {
-        return run_rekey(w, handles, r, o.slot, o.key);
-    }
-    run_remove(w, handles, r, o.slot)
-}
-
-// Operation i of a trace, of two words each: the slot times 4 with the kind (0 put, 1 take, 2 rekey, 3 remove), then the key.
-fn operation_at(trace: &[u64], i: u64) -> Operation {
-    let j = i % 4611686018427387904 * 2;
-    let word = read(trace, j);
+// The operation of two words: the slot times 4 with the kind (0 put, 1 take, 2 rekey, 3 remove), then the key.
+fn operation_of(word: u64, key: u64) -> Operation {
     Operation {
-        kind: word % 4,
+        kind: Kind::of(word % 4),
         slot: word / 4,
-        key: read(trace, j + 1),
+        key,
     }
 }
 
-// Runs a trace from this head on, and gives the sum of what came out.
-fn run_all(w: &mut [u64], trace: &[u64], handles: &mut [u64], h: Head) -> u64 {
-    let n = (trace.len() / 2) as u64;
-    let mut r = Run { head: h, sum: 0 };
-    let mut i: u64 = 0;
-    while i < n {
-        r = run_one(w, handles, r, operation_at(trace, i), i);
-        i += 1;
+// Runs a trace from this head on, and gives the sum of what came out; a refusal counts as its number.
+fn run_all(w: &mut [u64], trace: &[u64], handles: &mut [u64], head: Head) -> u64 {
+    let mut r = Run { head, sum: 0 };
+    for i in 0..trace.len() / 2 {
+        let o = operation_of(trace[i * 2], trace[i * 2 + 1]);
+        if let Err(cause) = r.run(w, handles, o, i as u64) {
+            r.add(u64::from(cause));
+        }
     }
     r.sum
 }
@@ -176,9 +167,8 @@ pub extern "C" fn wastelquib_queue_trace(
     trace: &[u64],
     handles: &mut [u64],
 ) -> u64 {
-    let made = set_up(w, d);
-    match made {
-        SetUp::Refused(i) => i,
-        SetUp::Ready(h) => run_all(w, trace, handles, h),
+    match set_up(w, d) {
+        Ok(head) => run_all(w, trace, handles, head),
+        Err(cause) => u64::from(cause),
     }
 }

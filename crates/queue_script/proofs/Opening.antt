@@ -1,6 +1,6 @@
 -- Set-up of a queue of 1 to 512 cells by the first line, and the lines after it.
 -- Assumes nothing.
-use Prim.Native.Nat.{ℕ, ◌*◌, ◌/◌, ◌≤◌}
+use Prim.Native.Nat.{ℕ, ◌*◌, ◌/◌, ◌≤◌, min}
 use native.Mathlib.Omega.{arith}
 use mathlib.Core.Bool.{true, false}
 use mathlib.Core.List.{List, ◌++◌}
@@ -15,8 +15,10 @@ use Rattle.queue.specs.Model.{fresh_model}
 use Rattle.queue.specs.Shows.{Shows}
 use Rattle.queue.specs.SetUps.{set_up_answer, set_up_words}
 use Rattle.queue.specs.declared.head.Head.{Head}
-use Rattle.queue.specs.declared.head.SetUp.{SetUp}
-use Rattle.queue.specs.declared.head.SetUp.TheVariants as set_up
+use Rattle.std.specs.Prelude.{None, Some, Result, Ok, Err}
+use Rattle.cells.specs.Causes.{number_of}
+use Rattle.cells.specs.declared.refusal.Refusal.{Refusal}
+use Rattle.cells.specs.declared.refusal.Refusal.TheVariants as causes
 use Rattle.queue.proofs.SetUpCases.{refused-arity, accepted-both}
 use Rattle.queue.proofs.SetUpShown.{set-up-ready}
 use Rattle.script.specs.Answers.{Laid}
@@ -26,7 +28,6 @@ use Rattle.queue_script.specs.Commands.{command_of}
 use Rattle.queue_script.specs.Texts.{bad_text, refused_text, ready_text}
 use Rattle.queue_script.specs.Spoken.{call_of, Obeyed}
 use Rattle.queue_script.specs.Runs.{Place, Before, Ended, opening_of, opening_text, opening_place, call_model, printed, following, Blank, Opened, Stands, Reached, Begun, Answered}
-use Rattle.queue_script.specs.declared.commands.Opening.TheVariants as opening
 use Rattle.queue_script.specs.declared.serving.Session.{Session}
 use Rattle.queue_script.specs.declared.serving.Session.TheVariants as session
 use Rattle.queue_script.proofs.Speaking.{obeyed-shown}
@@ -39,41 +40,40 @@ module _ (w : List ℕ) (n d : ℕ) (long : length w ≡ n * 8) (some : 1 ≤ n)
   right = size-right (length w / 8) (omega (arith, size)) (omega (arith, size))
 
   -- A refusal is by 2, and the arity is bad.
-  refused-two : (a : SetUp) (i : ℕ) → a ≡ set_up_answer w d → a ≡ set_up.Refused i → (i ≡ 2) × ((bad_arity d).applies ≡ true)
-  refused-two a i e f =
+  refused-two : (a : Result Head Refusal) (r : Refusal) → a ≡ set_up_answer w d → a ≡ Err r
+      → (number_of r ≡ 2) × ((bad_arity d).applies ≡ true)
+  refused-two a r e f =
       test (bad_arity d).applies
       (λ bad.
       let known = (refused-arity w d right bad).0 in
-      let two : ◌≡◌ {A = ℕ} i 2 = cc in
-      (two, bad))
+      let two : r ≡ causes.BadArity = cc in
+      (ap number_of two, bad))
       (λ good.
       let known = (accepted-both w d right good).0 in
-      let z : ◌≡◌ {A = ℕ} 0 1 = cc in
-      absurd (omega arith))
+      absurd (cc))
 
   -- An accepted arity is not bad.
-  ready-right : (a : SetUp) (h : Head) → a ≡ set_up_answer w d → a ≡ set_up.Ready h → (bad_arity d).applies ≡ false
+  ready-right : (a : Result Head Refusal) (h : Head) → a ≡ set_up_answer w d → a ≡ Ok h → (bad_arity d).applies ≡ false
   ready-right a h e f =
       test (bad_arity d).applies
       (λ bad.
       let known = (refused-arity w d right bad).0 in
-      let z : ◌≡◌ {A = ℕ} 0 1 = cc in
-      absurd (omega arith))
+      absurd (cc))
       (λ good. good)
 
   -- A refused set-up is the run's.
-  pub begun-refused : (a : SetUp) (i : ℕ) (out : List ℕ) (at : ℕ) (w' out' : List ℕ) (end : ℕ)
-      → a ≡ set_up_answer w d → a ≡ set_up.Refused i → Laid out at (refused_text i) out' end
-      → Begun (opening.Queue n d) out at session.Over w' out' end
+  pub begun-refused : (a : Result Head Refusal) (r : Refusal) (out : List ℕ) (at : ℕ) (w' out' : List ℕ) (end : ℕ)
+      → a ≡ set_up_answer w d → a ≡ Err r → Laid out at (refused_text (number_of r)) out' end
+      → Begun (Some (record { cells = n; arity = d })) out at session.Over w' out' end
   unfolding Stands opening_place opening_text
-  begun-refused a i out at w' out' end e f laid =
-      let known = refused-two a i e f in
+  begun-refused a r out at w' out' end e f laid =
+      let known = refused-two a r e f in
       record { stands = rw known.1; lines = rw known.1 (laid_as out out' at end _ _ laid (ap refused_text known.0)) }
 
   -- An accepted set-up is the run's.
-  pub begun-ready : (a : SetUp) (h : Head) (w' rest out : List ℕ) (at : ℕ) (out' : List ℕ) (end : ℕ)
-      → a ≡ set_up_answer w d → a ≡ set_up.Ready h → w' ≡ set_up_words w d → Laid out at (ready_text n d) out' end
-      → Begun (opening.Queue n d) out at (session.Open (n * 8) h) (w' ++ rest) out' end
+  pub begun-ready : (a : Result Head Refusal) (h : Head) (w' rest out : List ℕ) (at : ℕ) (out' : List ℕ) (end : ℕ)
+      → a ≡ set_up_answer w d → a ≡ Ok h → w' ≡ set_up_words w d → Laid out at (ready_text n d) out' end
+      → Begun (Some (record { cells = n; arity = d })) out at (session.Open (n * 8) h) (w' ++ rest) out' end
   unfolding Stands opening_place opening_text
   begun-ready a h w' rest out at out' end e f p laid =
       let good = ready-right a h e f in
@@ -93,7 +93,7 @@ module _ (w : List ℕ) (n d : ℕ) (long : length w ≡ n * 8) (some : 1 ≤ n)
 
 -- A bad first line ends the run.
 pub begun-wrong : (out : List ℕ) (at : ℕ) (w out' : List ℕ) (end : ℕ) → Laid out at bad_text out' end
-    → Begun opening.Wrong out at session.Over w out' end
+    → Begun None out at session.Over w out' end
 unfolding Stands opening_place opening_text
 begun-wrong out at w out' end laid = record { stands = refl; lines = laid }
 
@@ -130,11 +130,11 @@ module _ (was : Session) (w line out : List ℕ) (at : ℕ) (p : Place) where
       })
 
   -- Once the run is over.
-  pub answered-over : was ≡ session.Over → at ≤ length out → Stands was w p → Answered p line out at session.Over w out at
+  pub answered-over : (end : ℕ) → was ≡ session.Over → end ≡ min at (length out) → Stands was w p → Answered p line out at session.Over w out end
   unfolding Stands following printed
-  answered-over e h s =
+  answered-over end e h s =
       let over : p ≡ Ended = subst (λ (x : Session). Stands x w p) e s in
-      rw over (record { stands = refl; lines = laid_none out at at (omega arith) })
+      rw over (record { stands = refl; lines = laid_none out at end (omega arith) })
 
 -- From any place of a run an answered line reaches the next.
 pub reached-on : (was now : Session) (w line out : List ℕ) (at : ℕ) (w' out' : List ℕ) (end : ℕ)

@@ -7,19 +7,20 @@ use mathlib.Core.Path.{◌≡◌, subst}
 use lib.Dec.{eqb}
 use borrow.Author.Tests.{le-leb, lt-leb, eq-eqb, ne_eqb}
 use Rattle.cells.proofs.Cases.{same?, at_most?}
-use Rattle.script.specs.declared.reading.Read.{Read}
-use Rattle.script.specs.declared.reading.Read.TheVariants as read
-use Rattle.queue_script.specs.Commands.{queue_of, of_none, of_two, of_three, of_count, command_of}
+use Rattle.std.specs.Prelude.{Option, None, Some}
+use Rattle.script.specs.declared.reading.Line.{Line}
+use Rattle.script.specs.declared.reading.Numbers.{Numbers}
+use Rattle.script.specs.declared.reading.Numbers.TheVariants as numbers
+use Rattle.queue_script.specs.Commands.{queue_of, of_none, of_two, of_three, of_line, command_of}
 use Rattle.queue_script.specs.Runs.{opening_of}
 use Rattle.queue_script.specs.declared.commands.Opening.{Opening}
-use Rattle.queue_script.specs.declared.commands.Opening.TheVariants as opening
 use Rattle.queue_script.specs.declared.commands.Command.{Command}
 use Rattle.queue_script.specs.declared.commands.Command.TheVariants as command
 
 -- What holds of the numbers of a first line.
-abbrev Sized : Opening → Type 0
-Sized opening.Wrong = Unit {0}
-Sized (opening.Queue n d) = (1 ≤ n) × (n ≤ 512)
+abbrev Sized : Option Opening → Type 0
+Sized None = Unit {0}
+Sized (Some o) = (1 ≤ o.cells) × (o.cells ≤ 512)
 
 -- Of two commands either sets a queue within the range up, or none.
 either : (t : Bool) (x y : Command) → Sized (opening_of x) → Sized (opening_of y) → Sized (opening_of (cond t x y))
@@ -34,16 +35,19 @@ queue-sized n d =
     rw (ne_eqb n 0 e)
     (at_most? n 512 (λ h. rw (le-leb n 512 h) (omega arith, h)) (λ h. rw (lt-leb n 512 h) tt)))
 
-sized : (r : Read) → Sized (opening_of (command_of r))
-unfolding command_of of_count of_none of_two of_three opening_of
-sized read.Bad = tt
-sized (read.Line w n a b c) =
-    either (eqb n 0) _ _
-    (either (eqb w 70) command.First _ tt (either (eqb w 84) command.Take command.Bad tt tt))
-    (either (eqb n 2) _ _
-    (either (eqb w 80) (command.Put a b) _ tt
-    (either (eqb w 82) (command.Remove a b) _ tt (either (eqb w 487300887909) _ command.Bad (queue-sized a b) tt)))
-    (either (eqb n 3) _ command.Bad (either (eqb w 75) (command.Rekey a b c) command.Bad tt tt) tt))
+line-sized : (w : ℕ) (n : Numbers) → Sized (opening_of (of_line w n))
+unfolding of_line of_none of_two of_three opening_of
+line-sized w numbers.Zero = either (eqb w 70) command.First _ tt (either (eqb w 84) command.Take command.Bad tt tt)
+line-sized w (numbers.One a) = tt
+line-sized w (numbers.Two a b) =
+    either (eqb w 80) (command.Put a b) _ tt
+    (either (eqb w 82) (command.Remove a b) _ tt (either (eqb w 487300887909) _ command.Bad (queue-sized a b) tt))
+line-sized w (numbers.Three a b c) = either (eqb w 75) (command.Rekey a b c) command.Bad tt tt
 
-pub size-bound : (r : Read) (n d : ℕ) → opening_of (command_of r) ≡ opening.Queue n d → (1 ≤ n) × (n ≤ 512)
-size-bound r n d e = subst Sized e (sized r)
+sized : (r : Option Line) → Sized (opening_of (command_of r))
+unfolding command_of opening_of
+sized None = tt
+sized (Some l) = line-sized l.word l.numbers
+
+pub size-bound : (r : Option Line) (o : Opening) → opening_of (command_of r) ≡ Some o → (1 ≤ o.cells) × (o.cells ≤ 512)
+size-bound r o e = subst Sized e (sized r)

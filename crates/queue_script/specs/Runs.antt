@@ -2,7 +2,7 @@
 -- The moves that are printed follow from the heap, so that the run is on the model with its heap, which means the plain list.
 -- Assumes nothing.
 use Rattle.std.specs.Prelude.{ℕ, ◌≤◌, cond, List, [], ◌≡◌, length, take}
-use Rattle.std.proofs.Math.Option.{Option, none, some}
+use Rattle.std.specs.Prelude.{Option, None, Some}
 use Rattle.script.specs.Grammar.{read_line}
 use Rattle.script.specs.Answers.{Laid}
 use Rattle.meaning.specs.Calls.{Call}
@@ -16,7 +16,6 @@ use Rattle.queue_script.specs.Spoken.{call_of}
 use Rattle.queue_script.specs.declared.commands.Command.{Command}
 use Rattle.queue_script.specs.declared.commands.Command.TheVariants as command
 use Rattle.queue_script.specs.declared.commands.Opening.{Opening}
-use Rattle.queue_script.specs.declared.commands.Opening.TheVariants as opening
 use Rattle.queue_script.specs.declared.serving.Session.{Session}
 use Rattle.queue_script.specs.declared.serving.Session.TheVariants as session
 
@@ -26,34 +25,34 @@ pub data Place : Type 0 where
   Running : Model → Place
   Ended : Place
 
--- What the first line sets up.
-unfoldable pub opening_of : Command → Opening
-opening_of command.Bad = opening.Wrong
-opening_of (command.Queue n d) = opening.Queue n d
-opening_of (command.Put key x) = opening.Wrong
-opening_of command.First = opening.Wrong
-opening_of command.Take = opening.Wrong
-opening_of (command.Rekey c k key) = opening.Wrong
-opening_of (command.Remove c k) = opening.Wrong
+-- What the first line sets up, if it is right.
+unfoldable pub opening_of : Command → Option Opening
+opening_of command.Bad = None
+opening_of (command.Queue n d) = Some (record { cells = n; arity = d })
+opening_of (command.Put key x) = None
+opening_of command.First = None
+opening_of command.Take = None
+opening_of (command.Rekey c k key) = None
+opening_of (command.Remove c k) = None
 
 -- "First line `queue N d` .., answered `queue N arity d`"; "A first line that is bad or refused gives `bad line` or its refusal".
-unfoldable pub opening_text : Opening → List ℕ
-opening_text opening.Wrong = bad_text
-opening_text (opening.Queue n d) = cond (bad_arity d).applies (refused_text 2) (ready_text n d)
+unfoldable pub opening_text : Option Opening → List ℕ
+opening_text None = bad_text
+opening_text (Some o) = cond (bad_arity o.arity).applies (refused_text 2) (ready_text o.cells o.arity)
 
 -- "and ends the run"
-unfoldable pub opening_place : Opening → Place
-opening_place opening.Wrong = Ended
-opening_place (opening.Queue n d) = cond (bad_arity d).applies Ended (Running (fresh_model d n))
+unfoldable pub opening_place : Option Opening → Place
+opening_place None = Ended
+opening_place (Some o) = cond (bad_arity o.arity).applies Ended (Running (fresh_model o.arity o.cells))
 
 -- The answer of a call with its moves, or a bad line.
 unfoldable pub call_text : Option Call → Model → List ℕ
-call_text none m = bad_text
-call_text (some call) m = answer_text (takes call) (step call m).answer (step_moves call m)
+call_text None m = bad_text
+call_text (Some call) m = answer_text (takes call) (step call m).answer (step_moves call m)
 
 unfoldable pub call_model : Option Call → Model → Model
-call_model none m = m
-call_model (some call) m = (step call m).next
+call_model None m = m
+call_model (Some call) m = (step call m).next
 
 -- What a line prints.
 unfoldable pub printed : Place → List ℕ → List ℕ
@@ -89,7 +88,7 @@ pub record Reached (session : Session) (w : List ℕ) : Type 0 where
   pub stands : Stands session w place
 
 -- The first line is answered.
-pub record Begun (x : Opening) (out : List ℕ) (at : ℕ) (session : Session) (w out' : List ℕ) (end : ℕ) : Type 0 where
+pub record Begun (x : Option Opening) (out : List ℕ) (at : ℕ) (session : Session) (w out' : List ℕ) (end : ℕ) : Type 0 where
   pub stands : Stands session w (opening_place x)
   pub lines : Laid out at (opening_text x) out' end
 

@@ -1,7 +1,7 @@
 -- What a command after the first line does: the queue keeps its promise, and what is printed is what the promise tells.
 -- Assumes nothing.
 use Rattle.std.specs.Prelude.{ℕ, List, ◌≡◌}
-use Rattle.std.proofs.Math.Option.{Option, none, some}
+use Rattle.std.specs.Prelude.{Option, None, Some}
 use Rattle.script.specs.Answers.{Laid}
 use Rattle.meaning.specs.Calls.{Call, Put, First, Take, Rekey, Remove}
 use Rattle.queue.specs.Answers.{Told}
@@ -25,15 +25,15 @@ pub record Spurned (h : Head) (w out : List ℕ) (at : ℕ) (h' : Head) (w' out'
 
 -- The call of a command; a queue is set up by the first line alone.
 unfoldable pub call_of : Command → Option Call
-call_of command.Bad = none
-call_of (command.Queue n d) = none
-call_of (command.Put key x) = some (Put key x)
-call_of command.First = some First
-call_of command.Take = some Take
-call_of (command.Rekey c k key) = some (Rekey c k key)
-call_of (command.Remove c k) = some (Remove c k)
+call_of command.Bad = None
+call_of (command.Queue n d) = None
+call_of (command.Put key x) = Some (Put key x)
+call_of command.First = Some First
+call_of command.Take = Some Take
+call_of (command.Rekey c k key) = Some (Rekey c k key)
+call_of (command.Remove c k) = Some (Remove c k)
 
 -- A line after the first: its call, or a bad line.
 unfoldable pub Obeyed : Option Call → Head → List ℕ → List ℕ → ℕ → Head → List ℕ → List ℕ → ℕ → Type 0
-Obeyed none h w out at h' w' out' end = Spurned h w out at h' w' out' end
-Obeyed (some call) h w out at h' w' out' end = Spoken call h w out at h' w' out' end
+Obeyed None h w out at h' w' out' end = Spurned h w out at h' w' out' end
+Obeyed (Some call) h w out at h' w' out' end = Spoken call h w out at h' w' out' end

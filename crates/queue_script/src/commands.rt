@@ -1,11 +1,11 @@
-// A script line as a command to the queue: the word and the count of its numbers must both be right.
+// A script line as a command to the queue: the word and how many numbers follow it must both be right.
 
 ghost use Rattle.std.specs.Prelude.{◌≡◌};
 ghost use Rattle.script.specs.Grammar.{read_line};
-ghost use Rattle.queue_script.specs.Commands.{queue_of, of_none, of_two, of_three, of_count, command_of};
+ghost use Rattle.queue_script.specs.Commands.{queue_of, of_none, of_two, of_three, of_line, command_of};
 ghost use Rattle.queue_script.specs.Runs.{opening_of};
 
-use script::reading::{Read, read_line};
+use script::reading::{Line, Numbers, read_line};
 
 // Each command with its numbers, in the order of the line.
 #[derive(Clone, Copy)]
@@ -19,118 +19,101 @@ pub enum Command {
     Remove(u64, u64),
 }
 
-// What a first line sets up: a queue of so many cells and an arity, or nothing.
+// What a first line sets up: a queue of so many cells, of an arity.
 #[derive(Clone, Copy)]
-pub enum Opening {
-    Wrong,
-    Queue(u64, u64),
+pub struct Opening {
+    pub cells: u64,
+    pub arity: u64,
 }
 
-// The words as `read_line` reads them: bytes as a base-256 number.
-const QUEUE: u64 = 487300887909;
+// The words as `read_line` reads them, bytes as a base-256 number, since the grammar's `word_number` has them so.
+const QUEUE: u64 = 0x7175657565;
 
-const PUT: u64 = 80;
+const PUT: u64 = b'P' as u64;
 
-const FIRST: u64 = 70;
+const FIRST: u64 = b'F' as u64;
 
-const TAKE: u64 = 84;
+const TAKE: u64 = b'T' as u64;
 
-const REKEY: u64 = 75;
+const REKEY: u64 = b'K' as u64;
 
-const REMOVE: u64 = 82;
+const REMOVE: u64 = b'R' as u64;
 
+#[tactic(auto, unfolding(crate::specs::Commands::of_none))]
 fn of_none(word: u64) -> Command
     ensures { result ≡ of_none word }
 {
-    if word == FIRST {
-        return Command::First;
+    match word {
+        FIRST => Command::First,
+        TAKE => Command::Take,
+        _ => Command::Bad,
     }
-    if word == TAKE {
-        return Command::Take;
-    }
-    Command::Bad
 }
 
 // A queue of 1 to 512 cells.
+#[tactic(auto, unfolding(crate::specs::Commands::queue_of))]
 fn queue_of(n: u64, d: u64) -> Command
     ensures { result ≡ queue_of n d }
 {
-    if n == 0 {
-        return Command::Bad;
+    match n {
+        1..=512 => Command::Queue(n, d),
+        _ => Command::Bad,
     }
-    if n > 512 {
-        return Command::Bad;
-    }
-    Command::Queue(n, d)
 }
 
+#[tactic(auto, unfolding(crate::specs::Commands::of_two))]
 fn of_two(word: u64, a: u64, b: u64) -> Command
     ensures { result ≡ of_two word a b }
 {
-    if word == PUT {
-        return Command::Put(a, b);
+    match word {
+        PUT => Command::Put(a, b),
+        REMOVE => Command::Remove(a, b),
+        QUEUE => queue_of(a, b),
+        _ => Command::Bad,
     }
-    if word == REMOVE {
-        return Command::Remove(a, b);
-    }
-    if word == QUEUE {
-        return queue_of(a, b);
-    }
-    Command::Bad
 }
 
+#[tactic(auto, unfolding(crate::specs::Commands::of_three))]
 fn of_three(word: u64, a: u64, b: u64, c: u64) -> Command
     ensures { result ≡ of_three word a b c }
 {
-    if word == REKEY {
-        return Command::Rekey(a, b, c);
+    match word {
+        REKEY => Command::Rekey(a, b, c),
+        _ => Command::Bad,
     }
-    Command::Bad
 }
 
-// By the count first, so that a word with too few or too many numbers is bad.
-fn of_count(word: u64, count: u64, a: u64, b: u64, c: u64) -> Command
-    ensures { result ≡ of_count word count a b c }
+// By the numbers first, so that a word with too few or too many is bad.
+#[tactic(auto, unfolding(crate::specs::Commands::of_line))]
+fn of_line(line: Line) -> Command
+    ensures { result ≡ of_line line.word line.numbers }
 {
-    if count == 0 {
-        return of_none(word);
+    match line.numbers {
+        Numbers::Zero => of_none(line.word),
+        Numbers::One(_) => Command::Bad,
+        Numbers::Two(a, b) => of_two(line.word, a, b),
+        Numbers::Three(a, b, c) => of_three(line.word, a, b, c),
     }
-    if count == 2 {
-        return of_two(word, a, b);
-    }
-    if count == 3 {
-        return of_three(word, a, b, c);
-    }
-    Command::Bad
 }
 
 // A line, without its line feed.
+#[tactic(auto, unfolding(crate::specs::Commands::command_of))]
 pub fn read_command(line: &[u8]) -> Command
     ensures { result ≡ command_of (read_line line.now) }
 {
     match read_line(line) {
-        Read::Bad => Command::Bad,
-        Read::Line {
-            word,
-            count,
-            a,
-            b,
-            c,
-        } => of_count(word, count, a, b, c),
+        Some(read) => of_line(read),
+        None => Command::Bad,
     }
 }
 
 // A command as the first of a run: only one that sets a queue up is right there.
-pub fn as_first(command: Command) -> Opening
+#[tactic(auto, unfolding(crate::specs::Runs::opening_of))]
+pub fn as_first(command: Command) -> Option<Opening>
     ensures { result ≡ opening_of command }
 {
     match command {
-        Command::Queue(n, d) => Opening::Queue(n, d),
-        Command::Put(_, _) => Opening::Wrong,
-        Command::First => Opening::Wrong,
-        Command::Take => Opening::Wrong,
-        Command::Rekey(_, _, _) => Opening::Wrong,
-        Command::Remove(_, _) => Opening::Wrong,
-        Command::Bad => Opening::Wrong,
+        Command::Queue(cells, arity) => Some(Opening { cells, arity }),
+        _ => None,
     }
 }

@@ -1,15 +1,15 @@
 // A run, line by line: the first line sets the queue up or ends the run, and every other is a command.
+#![tactic(auto, unfolding(crate::specs::Sessions::words_of))]
 
-ghost use Rattle.std.specs.Prelude.{◌≡◌, ◌≤◌, length};
-ghost use Rattle.queue_script.specs.Sessions.{goes_on, Within};
+ghost use Rattle.std.specs.Prelude.{◌≡◌, ◌≤◌, Some, length};
+ghost use Rattle.queue_script.specs.Sessions.{words_of, goes_on, Within};
 ghost use Rattle.script.specs.Grammar.{read_line};
 ghost use Rattle.queue_script.specs.Commands.{command_of};
 ghost use Rattle.queue_script.specs.Runs.{opening_of, Begun};
-ghost use Rattle.queue_script.specs.declared.commands.Opening.TheVariants as opening;
 
 use crate::answers::{bad_line, ready, refused};
 use crate::commands::{Opening, as_first, read_command};
-use queue::head::{Head, SetUp};
+use queue::head::Head;
 use queue::setup::set_up;
 
 // Where a run stands: before its first line, with a queue in so many of the words, or ended by its first line.
@@ -27,13 +27,13 @@ pub struct Turn {
     pub session: Session,
 }
 
-// Sets a queue of n cells up: a bad line where the words hold fewer.
-fn open(out: &mut [u8], at: usize, w: &mut [u64], n: u64, d: u64) -> Turn
-    requires { (1 ≤ n) × (n ≤ 512) }
+// Sets a queue up: a bad line where the words hold fewer cells.
+fn open(out: &mut [u8], at: usize, w: &mut [u64], first: Opening) -> Turn
+    requires { (1 ≤ first.cells) × (first.cells ≤ 512) }
     ensures within { Within result (length out.old) (length w.old) }
-    ensures told { 4096 ≤ length w.old → Begun (opening.Queue n d) out.old at result.session w.new out.new result.end }
+    ensures told { 4096 ≤ length w.old → Begun (Some first) out.old at result.session w.new out.new result.end }
 {
-    let cells = n as usize;
+    let cells = first.cells as usize;
     if cells > w.len() / 8 {
         return Turn {
             end: bad_line(out, at),
@@ -41,14 +41,14 @@ fn open(out: &mut [u8], at: usize, w: &mut [u64], n: u64, d: u64) -> Turn
         };
     }
     let words = cells * 8;
-    match set_up(&mut w[..words], d) {
-        SetUp::Refused(i) => Turn {
-            end: refused(out, at, i),
+    match set_up(&mut w[..words], first.arity) {
+        Err(cause) => Turn {
+            end: refused(out, at, cause),
             session: Session::Over,
         },
-        SetUp::Ready(h) => Turn {
-            end: ready(out, at, n, d),
-            session: Session::Open(words, h),
+        Ok(head) => Turn {
+            end: ready(out, at, first.cells, first.arity),
+            session: Session::Open(words, head),
         },
     }
 }
@@ -60,8 +60,8 @@ pub fn begin(out: &mut [u8], at: usize, w: &mut [u64], line: &[u8]) -> Turn
         → Begun (opening_of (command_of (read_line line.now))) out.old at result.session w.new out.new result.end }
 {
     match as_first(read_command(line)) {
-        Opening::Queue(n, d) => open(out, at, w, n, d),
-        Opening::Wrong => Turn {
+        Some(first) => open(out, at, w, first),
+        None => Turn {
             end: bad_line(out, at),
             session: Session::Over,
         },
@@ -69,12 +69,12 @@ pub fn begin(out: &mut [u8], at: usize, w: &mut [u64], line: &[u8]) -> Turn
 }
 
 // Whether there is a further line to read.
+#[tactic(auto, unfolding(crate::specs::Sessions::goes_on))]
 pub fn goes_on(session: Session) -> bool
     ensures { result ≡ goes_on session }
 {
     match session {
-        Session::Fresh => true,
-        Session::Open(_, _) => true,
+        Session::Fresh | Session::Open(_, _) => true,
         Session::Over => false,
     }
 }

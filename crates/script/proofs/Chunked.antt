@@ -11,7 +11,8 @@ use Rattle.cells.proofs.Lists.{all_take}
 use Rattle.cells.specs.Lists.{All}
 use Rattle.script.specs.Grammar.{in_front, pieces, up_to, after, read_line}
 use Rattle.script.specs.Chunks.{ended, rest, ending, lines_of, joined, chunked}
-use Rattle.script.specs.declared.reading.Read.{Read}
+use Rattle.std.specs.Prelude.{Option}
+use Rattle.script.specs.declared.reading.Line.{Line}
 use Rattle.script.proofs.Lines.{read-long}
 use Rattle.script.proofs.Pieces.{pieces-stop, pieces-past, pieces-first}
 
@@ -116,21 +117,21 @@ read-cut f t =
     at_most? (length f) 129
     (λ h. rw (take_all 129 f h))
     (λ h.
-    sym (read-long (f ++ t) (omega (arith, length-append f t)))
-    ∙ read-long (take 129 f ++ t) (omega (arith, length-append (take 129 f) t, length-take-le 129 f (omega arith))))
+    read-long (f ++ t) (omega (arith, length-append f t))
+    ∙ sym (read-long (take 129 f ++ t) (omega (arith, length-append (take 129 f) t, length-take-le 129 f (omega arith)))))
 
 -- The readings of the lines, where the first piece is cut so.
 ending-cut : (f t : List ℕ) → map read_line (ending (f ++ t)) ≡ map read_line (ending (take 129 f ++ t))
 unfolding ending
 ending-cut [] t = refl
-ending-cut (b ∷ f) t = ap (λ (r : Read). r ∷ []) (read-cut (b ∷ f) t)
+ending-cut (b ∷ f) t = ap (λ (r : Option Line). r ∷ []) (read-cut (b ∷ f) t)
 
 pieces-cut :
     (f t : List ℕ) (ps : List (List ℕ))
     → map read_line (of-pieces ((f ++ t) ∷ ps)) ≡ map read_line (of-pieces ((take 129 f ++ t) ∷ ps))
 unfolding of-pieces ended rest
 pieces-cut f t [] = ending-cut f t
-pieces-cut f t (q ∷ qs) = ap (λ (r : Read). r ∷ map read_line (ended (q ∷ qs) ++ ending (rest (q ∷ qs)))) (read-cut f t)
+pieces-cut f t (q ∷ qs) = ap (λ (r : Option Line). r ∷ map read_line (ended (q ∷ qs) ++ ending (rest (q ∷ qs)))) (read-cut f t)
 
 lines_cut : (f t : List ℕ) → Free 10 f → map read_line (lines_of (take 129 f ++ t)) ≡ map read_line (lines_of (f ++ t))
 unfolding lines_of of-pieces
@@ -159,7 +160,7 @@ chunked-lines held [] h = rw (append-nil held, lines-alone held h)
 chunked-lines held (c ∷ cs) h =
     let text = held ++ c in
     let left = rest (pieces 10 text) in
-    ap (λ (rs : List Read). map read_line (ended (pieces 10 text)) ++ rs)
+    ap (λ (rs : List (Option Line)). map read_line (ended (pieces 10 text)) ++ rs)
     (chunked-lines (take 129 left) cs (all_take (λ (b : ℕ). b ≡ 10 → ⊥) 129 left (rest-free 10 text))
     ∙ lines_cut left (joined cs) (rest-free 10 text))
     ∙ sym (map-append read_line (ended (pieces 10 text)) (lines_of (left ++ joined cs)))

@@ -6,8 +6,8 @@ use native.Mathlib.Numerals.{add-one}
 use native.Mathlib.Nat.{add-zero, add-suc, suc-add}
 use mathlib.Core.List.{List, [], ◌∷◌, ◌++◌, append-nil, append_assoc}
 use mathlib.Core.Path.{◌≡◌, refl, sym, ap, ◌∙◌}
-use lib.ListN.{length, take, drop, get_or, set, length-append, length-set, take-append-drop, drop_of_length-le}
-use lib.Seq.{sets, length-sets, sets-eq, set_out, take-suc, take_at, take_all, length-take-le}
+use lib.ListN.{length, take, drop, get_or, set, length-append, take-append-drop, drop_of_length-le}
+use lib.Seq.{sets, length-sets, sets-eq, set_out, take-suc, take_at, take_all, length-take-le, drop-drop}
 use Rattle.cells.proofs.Cases.{at_most?}
 use Rattle.script.specs.Answers.{decimal, spaced, Laid}
 
@@ -56,59 +56,47 @@ laid-join out out₁ out₂ at r s xs ys a b =
       stop = omega (arith, a.stop, b.stop, length-append xs ys);
     }
 
--- The loop that writes a text: the bytes of the text before i are laid.
-pub record Laying (out₀ : List ℕ) (at : ℕ) (text out : List ℕ) (i : ℕ) : Type 0 where
-  pub begun : at ≤ i
-  pub within : i - at ≤ length text
-  pub bytes : out ≡ sets out₀ at (take (i - at) text)
-  pub long : length out ≡ length out₀
-
-pub laying-start : (out : List ℕ) (at : ℕ) (text : List ℕ) → Laying out at text out at
-laying-start out at text =
-    let z : at - at ≡ 0 = omega arith in
-    record { begun = omega arith; within = omega arith; bytes = rw z; long = refl }
-
-pub laying-byte :
-    (out₀ : List ℕ) (at : ℕ) (text out : List ℕ) (i : ℕ)
-    → Laying out₀ at text out i
-    → i < at + length text
-    → Laying out₀ at text (set out i (get_or text (i - at) 0)) (i + 1)
-laying-byte out₀ at text out i v h =
-    let k : i - at < length text = omega (arith, v.begun) in
-    let n : (i + 1) - at ≡ suc (i - at) = omega (arith, v.begun) in
-    let j : at + length (take (i - at) text) ≡ i = omega (arith, v.begun, length-take-le (i - at) text (omega arith)) in
-    record {
-      begun = omega (arith, v.begun);
-      within = omega (arith, v.begun);
-      bytes =
-          rw (n, take-suc text (i - at) 0 k, ← sets-join out₀ at (take (i - at) text) (get_or text (i - at) 0 ∷ []), j, v.bytes);
-      long = length-set out i (get_or text (i - at) 0) ∙ v.long;
-    }
-
--- All that fits is laid.
-pub laying-all :
-    (out₀ : List ℕ) (at : ℕ) (text out : List ℕ) (i end : ℕ)
-    → Laying out₀ at text out i
-    → end ≤ i
-    → end ≡ min (at + length text) (length out₀)
-    → Laid out₀ at text out end
-laying-all out₀ at text out i end v s m = record {
+-- What stands where one text is copied over a part of the bytes, from `at` up to `end`.
+pub laid-part :
+    (out : List ℕ) (at : ℕ) (text : List ℕ) (end : ℕ) (part : List ℕ) (k : ℕ)
+    → at < end
+    → end ≡ min (at + length text) (length out)
+    → part ≡ take (end - at) text
+    → k ≡ end - at
+    → Laid out at text (take at out ++ (part ++ drop k (drop at out))) end
+laid-part out at text end part k h m e l = record {
   bytes =
-      v.bytes
-      ∙ sym (lost (sets out₀ at (take (i - at) text)) (length-sets out₀ at (take (i - at) text)))
-      ∙ sets-join out₀ at (take (i - at) text) (drop (i - at) text)
-      ∙ ap (sets out₀ at) (take-append-drop (i - at) text);
+      copied
+      ∙ sym (lost (sets out at (take (end - at) text)) (length-sets out at (take (end - at) text)))
+      ∙ sets-join out at (take (end - at) text) (drop (end - at) text)
+      ∙ ap (sets out at) (take-append-drop (end - at) text);
   stop = m;
 }
   where
-    here : at + length (take (i - at) text) ≡ i
-    here = omega (arith, v.begun, length-take-le (i - at) text v.within)
+    fits : length (take (end - at) text) ≡ end - at
+    fits = length-take-le (end - at) text (omega arith)
 
-    lost : (l : List ℕ) → length l ≡ length out₀ → sets l (at + length (take (i - at) text)) (drop (i - at) text) ≡ l
+    here : at + length (take (end - at) text) ≡ at + (end - at)
+    here = omega (arith, fits)
+
+    copied : take at out ++ (part ++ drop k (drop at out)) ≡ sets out at (take (end - at) text)
+    copied = rw (e, l, drop-drop (end - at) at out, sets-eq (take (end - at) text) out at (omega (arith, fits)), here)
+        (sym (append_assoc (take at out) (take (end - at) text) (drop (at + (end - at)) out)))
+
+    lost : (l : List ℕ) → length l ≡ length out → sets l (at + length (take (end - at) text)) (drop (end - at) text) ≡ l
     lost l p =
-        at_most? (length out₀) i
-        (λ q. sets-past l (at + length (take (i - at) text)) (drop (i - at) text) (omega (arith, here)))
-        (λ q. rw (drop_of_length-le text {i = i - at} (omega (arith, v.begun))))
+        at_most? (length out) end
+        (λ q. sets-past l (at + length (take (end - at) text)) (drop (end - at) text) (omega (arith, fits)))
+        (λ q. rw (drop_of_length-le text {i = end - at} (omega arith)))
+
+-- A text that begins at the end or past it leaves the bytes as they were.
+pub laid-past :
+    (out : List ℕ) (at : ℕ) (text : List ℕ) (end : ℕ)
+    → end ≤ at
+    → end ≡ min (at + length text) (length out)
+    → Laid out at text out end
+laid-past out at [] end h m = record { bytes = refl; stop = m }
+laid-past out at (x ∷ text) end h m = record { bytes = sym (sets-past out at (x ∷ text) (omega arith)); stop = m }
 
 -- A text that fits: the bytes before it stay, it follows them, and so does what stood behind it.
 pub laid-fits :

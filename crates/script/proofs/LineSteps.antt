@@ -9,8 +9,7 @@ use lib.ListN.{length, take, drop, drop_of_length-le, length-drop}
 use lib.Seq.{drop-cons, drop-drop, take_all}
 use Rattle.script.specs.Grammar.{up_to, pieces, after}
 use Rattle.script.specs.Chunks.{ended, rest}
-use Rattle.script.proofs.Pieces.{pieces-first}
-use Rattle.script.proofs.Lines.{piece_cut}
+use Rattle.script.proofs.Pieces.{pieces-first, piece_cut}
 
 module _ (sep : ℕ) (s : List ℕ) (at end : ℕ) (e : end ≡ at + length (up_to sep (drop at s))) where
   -- The pieces from `at` on: the one up to `end`, and those after it.

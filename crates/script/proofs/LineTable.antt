@@ -3,11 +3,12 @@
 use Prim.Native.Nat.{ℕ}
 use mathlib.Core.List.{List, [], ◌∷◌, map}
 use mathlib.Core.Path.{◌≡◌, refl}
-use Rattle.script.specs.Grammar.{read_line, line_of, pieces, in_front, every, numeral, is_digit, value_of, is_number, is_word, word_number}
+use Rattle.script.specs.Grammar.{read_line, line_of, numbers_of, pieces, in_front, every, numeral, is_digit, value_of, is_number, is_word, word_number}
 use Rattle.script.specs.Answers.{decimal_in, decimal, spaced, phrase, answer_line}
 use Rattle.script.specs.Chunks.{ended, rest, ending, lines_of}
-use Rattle.script.specs.declared.reading.Read.{Read}
-use Rattle.script.specs.declared.reading.Read.TheVariants as read
+use Rattle.std.specs.Prelude.{Option, None, Some}
+use Rattle.script.specs.declared.reading.Line.{Line}
+use Rattle.script.specs.declared.reading.Numbers.TheVariants as numbers
 
 -- `wheel 2 0`, `A 4161 7`, `M 1 2 68719476735`, `G 4161 1`, `T`, `queue 4096 8`, `A 18446744073709551615 00000000000000000007`
 pub good : List (List ℕ)
@@ -21,19 +22,19 @@ good =
     ∷ (65 ∷ 32 ∷ 49 ∷ 56 ∷ 52 ∷ 52 ∷ 54 ∷ 55 ∷ 52 ∷ 52 ∷ 48 ∷ 55 ∷ 51 ∷ 55 ∷ 48 ∷ 57 ∷ 53 ∷ 53 ∷ 49 ∷ 54 ∷ 49 ∷ 53 ∷ 32 ∷ 48 ∷ 48 ∷ 48 ∷ 48 ∷ 48 ∷ 48 ∷ 48 ∷ 48 ∷ 48 ∷ 48 ∷ 48 ∷ 48 ∷ 48 ∷ 48 ∷ 48 ∷ 48 ∷ 48 ∷ 48 ∷ 48 ∷ 55 ∷ [])
     ∷ []
 
-pub readings : List Read
+pub readings : List (Option Line)
 readings =
-    read.Line 512852583788 2 2 0 0
-    ∷ read.Line 65 2 4161 7 0
-    ∷ read.Line 77 3 1 2 68719476735
-    ∷ read.Line 71 2 4161 1 0
-    ∷ read.Line 84 0 0 0 0
-    ∷ read.Line 487300887909 2 4096 8 0
-    ∷ read.Line 65 2 18446744073709551615 7 0
+    Some (record { word = 512852583788; numbers = numbers.Two 2 0 })
+    ∷ Some (record { word = 65; numbers = numbers.Two 4161 7 })
+    ∷ Some (record { word = 77; numbers = numbers.Three 1 2 68719476735 })
+    ∷ Some (record { word = 71; numbers = numbers.Two 4161 1 })
+    ∷ Some (record { word = 84; numbers = numbers.Zero })
+    ∷ Some (record { word = 487300887909; numbers = numbers.Two 4096 8 })
+    ∷ Some (record { word = 65; numbers = numbers.Two 18446744073709551615 7 })
     ∷ []
 
 pub good-lines : map read_line good ≡ readings
-unfolding good readings read_line line_of pieces in_front every numeral is_digit value_of is_number is_word word_number
+unfolding good readings read_line line_of numbers_of pieces in_front every numeral is_digit value_of is_number is_word word_number
 good-lines = refl
 
 -- ``, `A `, `A  1`, ` A 1`, `A 1<CR>`, `A<TAB>1`, `A 1 `, `A -1`, `A +1`, `A 1x`, `A 18446744073709551616`, `A 000000000000000000001`, `A 1 2 3 4`, `commanded 1`, `<NUL>A 1`
@@ -56,8 +57,8 @@ bad =
     ∷ (0 ∷ 65 ∷ 32 ∷ 49 ∷ [])
     ∷ []
 
-pub bad-lines : map read_line bad ≡ map (λ (s : List ℕ). read.Bad) bad
-unfolding bad read_line line_of pieces in_front every numeral is_digit value_of is_number is_word word_number
+pub bad-lines : map read_line bad ≡ map (λ (s : List ℕ). None) bad
+unfolding bad read_line line_of numbers_of pieces in_front every numeral is_digit value_of is_number is_word word_number
 bad-lines = refl
 
 -- `put 0 1 moves 2`, `took 18446744073709551615 3 4 0 moves 10`, `bad line`, `load 9 moves 10`, `clock 4161 moves 4 more`

@@ -1,12 +1,14 @@
 -- Laws of the pieces between separators: the first one, and those that follow it.
 -- Assumes nothing.
-use Prim.Native.Nat.{ℕ, suc, ◌+◌, ◌≤◌, ◌<◌}
+use Prim.Native.Nat.{ℕ, ◌+◌, ◌-◌, ◌≤◌, ◌<◌}
 use native.Mathlib.Omega.{arith}
-use native.Mathlib.Numerals.{add-one}
 use mathlib.Core.List.{List, [], ◌∷◌}
 use mathlib.Core.Path.{◌≡◌, refl, ap}
-use lib.ListN.{length, take, drop, get_or, drop_of_length-le}
-use lib.Seq.{drop-cons}
+use lib.ListN.{length, take, drop, drop_of_length-le}
+use Rattle.std.specs.Prelude.{Option, unwrap_or}
+use Rattle.std.specs.Option.{MatchOption}
+use Rattle.std.specs.List.{AllWithin, HoldsAt}
+use Rattle.std.proofs.lemmas.Iterator.{index_from_first}
 use borrow.Author.Tests.{eq-eqb, ne_eqb}
 use Rattle.cells.proofs.Cases.{same?}
 use Rattle.script.specs.Grammar.{up_to, in_front, pieces, after}
@@ -53,16 +55,26 @@ module _ (sep : ℕ) where
       (λ e. rw (pieces-stop b s e, up_to-stop b s e))
       (λ d. rw (pieces-past b s d, up_to-past b s d, pieces-first s))
 
-  -- A search that goes on from byte to byte: how far it is to the separator, from each.
-  pub far-stop : (s : List ℕ) (i : ℕ) → i < length s → get_or s i 0 ≡ sep → i + length (up_to sep (drop i s)) ≡ i
-  far-stop s i h e = rw (drop-cons s i 0 h, up_to-stop (get_or s i 0) (drop (suc i) s) e) (omega arith)
+  -- The first separator, where `position` finds one, ends the first piece.
+  pub up_to-first :
+      (s : List ℕ) (r : Option ℕ)
+      → MatchOption r (AllWithin (λ b. b ≡ sep → ⊥) s 0 (length s))
+      (λ i. (i < length s) × HoldsAt (λ b. b ≡ sep) s i × AllWithin (λ b. b ≡ sep → ⊥) s 0 i)
+      → length (up_to sep s) ≡ unwrap_or r (length s)
+  up_to-first =
+      index_from_first (λ t. length (up_to sep t)) (λ b. b ≡ sep) (λ b. b ≡ sep → ⊥) (unfold up_to in refl)
+      (λ b s e. rw (up_to-stop b s e))
+      (λ b s d. rw (up_to-past b s d) (omega arith))
 
-  pub far-past :
-      (s : List ℕ) (i : ℕ)
-      → i < length s
-      → (get_or s i 0 ≡ sep → ⊥)
-      → (i + 1) + length (up_to sep (drop (i + 1) s)) ≡ i + length (up_to sep (drop i s))
-  far-past s i h d = rw (add-one i, drop-cons s i 0 h, up_to-past (get_or s i 0) (drop (suc i) s) d) (omega arith)
+  -- Behind the end there is none.
+  pub up_to-behind : (s : List ℕ) (from : ℕ) → length s < from → from ≡ from + length (up_to sep (drop from s))
+  up_to-behind s from h = rw (drop_of_length-le s {i = from} (omega arith)) (unfold up_to in omega arith)
 
-  pub far-end : (s : List ℕ) (i : ℕ) → length s ≤ i → i + length (up_to sep (drop i s)) ≡ i
-  far-end s i h = rw (drop_of_length-le s h) (unfold up_to in omega arith)
+-- The piece that starts at `start` is what stands from there to its end.
+pub piece_cut :
+    (sep : ℕ) (s : List ℕ) (start end : ℕ)
+    → end ≡ start + length (up_to sep (drop start s))
+    → take (end - start) (drop start s) ≡ up_to sep (drop start s)
+piece_cut sep s start end e =
+    let n : end - start ≡ length (up_to sep (drop start s)) = omega arith in
+    rw n (up_to-take sep (drop start s))

@@ -12,7 +12,7 @@ use Rattle.cells.proofs.Cases.{test, at_most?, clash}
 use Rattle.script.specs.Grammar.{every, numeral, is_digit, value_of, is_number}
 use Rattle.script.specs.Steps.{given, number_field}
 use Rattle.script.specs.Answers.{decimal_in, decimal}
-use Rattle.script.specs.declared.reading.Field.TheVariants as field
+use Rattle.std.specs.Prelude.{Some}
 use Rattle.script.proofs.Fields.{digit-yes}
 use Rattle.script.proofs.Decimals.{in_small, in-more, decimal-length, decimal-some}
 
@@ -81,5 +81,5 @@ decimal-number n h =
     )
 
 -- What is written is read back.
-pub number-back : (n : ℕ) → n ≤ 18446744073709551615 → number_field (decimal n) ≡ field.Value n
+pub number-back : (n : ℕ) → n ≤ 18446744073709551615 → number_field (decimal n) ≡ Some n
 number-back n h = unfold number_field given in rw (decimal-number n h, decimal-value n h)

@@ -1,8 +1,8 @@
 -- Input as lines, and input that comes in chunks.
 -- Assumes nothing.
-use Rattle.std.specs.Prelude.{ℕ, List, [], ◌∷◌, ◌++◌, map, ◌≡◌, length, take, drop}
+use Rattle.std.specs.Prelude.{ℕ, Option, List, [], ◌∷◌, ◌++◌, map, ◌≡◌, length, take, drop}
 use Rattle.script.specs.Grammar.{pieces, read_line}
-use Rattle.script.specs.declared.reading.Read.{Read}
+use Rattle.script.specs.declared.reading.Line.{Line}
 
 -- All pieces but the last.
 unfoldable pub ended : List (List ℕ) → List (List ℕ)
@@ -35,7 +35,7 @@ pub record Carried (s : List ℕ) (from to : ℕ) (s' : List ℕ) (n : ℕ) : Ty
   pub many : n ≡ length (carried_of s from to)
 
 -- The lines read from chunks, one after the other, with what was carried from those before.
-unfoldable pub chunked : List ℕ → List (List ℕ) → List Read
+unfoldable pub chunked : List ℕ → List (List ℕ) → List (Option Line)
 chunked held [] = map read_line (ending held)
 chunked held (c ∷ cs) =
     map read_line (ended (pieces 10 (held ++ c))) ++ chunked (take 129 (rest (pieces 10 (held ++ c)))) cs

@@ -1,8 +1,9 @@
 -- The line grammar of document 01, "The script program", over bytes as numbers: 32 is the space, 10 the line feed, 48 to 57 the digits.
 -- Assumes nothing.
-use Rattle.std.specs.Prelude.{ℕ, ◌+◌, ◌-◌, ◌*◌, Bool, true, cond, ◌&&◌, List, [], ◌∷◌, length, get_or, leb, ltb, eqb}
-use Rattle.script.specs.declared.reading.Read.{Read}
-use Rattle.script.specs.declared.reading.Read.TheVariants as read
+use Rattle.std.specs.Prelude.{ℕ, ◌+◌, ◌-◌, ◌*◌, Bool, true, cond, ◌&&◌, List, [], ◌∷◌, length, leb, ltb, eqb, Option, None, Some}
+use Rattle.script.specs.declared.reading.Line.{Line}
+use Rattle.script.specs.declared.reading.Numbers.{Numbers}
+use Rattle.script.specs.declared.reading.Numbers.TheVariants as numbers
 
 -- The bytes before the first separator.
 unfoldable pub up_to : ℕ → List ℕ → List ℕ
@@ -52,14 +53,19 @@ is_word f = leb 1 (length f) && (leb (length f) 8 && every (ltb 32) f)
 unfoldable pub word_number : List ℕ → ℕ
 word_number f = numeral 256 0 0 f
 
+-- The numbers of at most three fields.
+unfoldable pub numbers_of : List (List ℕ) → Numbers
+numbers_of [] = numbers.Zero
+numbers_of (f ∷ []) = numbers.One (value_of f)
+numbers_of (f ∷ (g ∷ [])) = numbers.Two (value_of f) (value_of g)
+numbers_of (f ∷ (g ∷ (h ∷ fs))) = numbers.Three (value_of f) (value_of g) (value_of h)
+
 -- A word and 0 to 3 numbers; "any other line, an empty one .. too, gives `bad line`".
-unfoldable pub line_of : List (List ℕ) → Read
-line_of [] = read.Bad
+unfoldable pub line_of : List (List ℕ) → Option Line
+line_of [] = None
 line_of (w ∷ ns) =
-    cond (is_word w && (leb (length ns) 3 && every is_number ns))
-    (read.Line (word_number w) (length ns) (value_of (get_or ns 0 [])) (value_of (get_or ns 1 [])) (value_of (get_or ns 2 [])))
-    read.Bad
+    cond (is_word w && (leb (length ns) 3 && every is_number ns)) (Some (record { word = word_number w; numbers = numbers_of ns })) None
 
 -- "A line is at most 128 bytes before its line feed"
-unfoldable pub read_line : List ℕ → Read
-read_line s = cond (leb (length s) 128) (line_of (pieces 32 s)) read.Bad
+unfoldable pub read_line : List ℕ → Option Line
+read_line s = cond (leb (length s) 128) (line_of (pieces 32 s)) None

@@ -1,37 +1,39 @@
 -- What the steps of reading a line answer, in the grammar's words.
 -- Assumes nothing.
-use Rattle.std.specs.Prelude.{ℕ, ◌+◌, ◌-◌, ◌*◌, Bool, cond, ◌&&◌, List, [], ◌∷◌, leb, ltb, eqb}
+use Rattle.std.specs.Prelude.{ℕ, ◌+◌, ◌-◌, ◌*◌, Bool, cond, ◌&&◌, List, [], ◌∷◌, leb, Option, None, Some}
 use Rattle.script.specs.Grammar.{is_digit, is_number, value_of, is_word, word_number}
-use Rattle.script.specs.declared.reading.Read.{Read}
-use Rattle.script.specs.declared.reading.Read.TheVariants as read
-use Rattle.script.specs.declared.reading.Field.{Field}
-use Rattle.script.specs.declared.reading.Field.TheVariants as field
+use Rattle.script.specs.declared.reading.Line.{Line}
 use Rattle.script.specs.declared.reading.Numbers.{Numbers}
+use Rattle.script.specs.declared.reading.Numbers.TheVariants as numbers
 
 -- A field that passes its test has a value.
-unfoldable pub given : Bool → ℕ → Field
-given t v = cond t (field.Value v) field.Bad
+unfoldable pub given : Bool → ℕ → Option ℕ
+given t v = cond t (Some v) None
 
-unfoldable pub number_field : List ℕ → Field
+unfoldable pub number_field : List ℕ → Option ℕ
 number_field f = given (is_number f) (value_of f)
 
-unfoldable pub word_field : List ℕ → Field
+unfoldable pub word_field : List ℕ → Option ℕ
 word_field f = given (is_word f) (word_number f)
 
 -- The number v with one more digit.
-unfoldable pub one_digit : ℕ → ℕ → Field
+unfoldable pub one_digit : ℕ → ℕ → Option ℕ
 one_digit v b = given (is_digit b && leb (v * 10 + (b - 48)) 18446744073709551615) (v * 10 + (b - 48))
 
-unfoldable pub none : Numbers
-none = record { count = 0; a = 0; b = 0; c = 0 }
+-- One more number after those before, of which there are two at most.
+unfoldable pub onto : Option Numbers → ℕ → Option Numbers
+onto None v = None
+onto (Some numbers.Zero) v = Some (numbers.One v)
+onto (Some (numbers.One a)) v = Some (numbers.Two a v)
+onto (Some (numbers.Two a b)) v = Some (numbers.Three a b v)
+onto (Some (numbers.Three a b c)) v = None
 
--- One more number, at the first place that is free.
-unfoldable pub onto : Numbers → ℕ → Numbers
-onto n v =
-    cond (eqb n.count 0) (record { count = 1; a = v; b = n.b; c = n.c })
-    (cond (eqb n.count 1) (record { count = 2; a = n.a; b = v; c = n.c }) (record { count = 3; a = n.a; b = n.b; c = v }))
+-- The numbers before and those of the fields to come, each of which has to be a number.
+unfoldable pub fields_from : Option Numbers → List (List ℕ) → Option Numbers
+fields_from n [] = n
+fields_from n (f ∷ fs) = fields_from (cond (is_number f) (onto n (value_of f)) None) fs
 
--- The line of a word, the numbers read so far and the fields to come.
-unfoldable pub line_from : ℕ → Numbers → List (List ℕ) → Read
-line_from w n [] = read.Line w n.count n.a n.b n.c
-line_from w n (f ∷ fs) = cond (ltb n.count 3 && is_number f) (line_from w (onto n (value_of f)) fs) read.Bad
+-- A line of a word and such numbers.
+unfoldable pub line_with : ℕ → Option Numbers → Option Line
+line_with w None = None
+line_with w (Some n) = Some (record { word = w; numbers = n })

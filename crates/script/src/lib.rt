@@ -3,6 +3,7 @@
 
 pub mod chunks;
 pub mod console;
+pub mod drive;
 pub mod reading;
 pub mod scan;
 pub mod writing;

@@ -1,190 +1,100 @@
 // Reading a script line: a command word and up to three numbers.
 
-ghost use Rattle.std.specs.Prelude.{◌≡◌, ◌≤◌, ◌<◌, length, drop};
-ghost use Rattle.script.specs.Grammar.{after, read_line};
-ghost use Rattle.script.specs.Steps.{one_digit, word_field, number_field, none as no_numbers, onto, line_from};
+ghost use Rattle.std.specs.Prelude.{◌≡◌, Some};
+ghost use Rattle.script.specs.Grammar.{read_line};
+ghost use Rattle.script.specs.Steps.{one_digit, word_field, number_field, onto};
 
-use crate::scan::next;
-
-// A line as it is read: no line of the grammar, or its word as a base-256 number, how many numbers follow, and these, 0 where absent.
+// The numbers that follow a word.
 #[derive(Clone, Copy)]
-pub enum Read {
-    Bad,
-    Line {
-        word: u64,
-        count: u64,
-        a: u64,
-        b: u64,
-        c: u64,
-    },
+pub enum Numbers {
+    Zero,
+    One(u64),
+    Two(u64, u64),
+    Three(u64, u64, u64),
 }
 
-// One field as it is read.
+// A line as it is read: its word as a base-256 number, and the numbers that follow.
 #[derive(Clone, Copy)]
-enum Field {
-    Bad,
-    Value(u64),
+pub struct Line {
+    pub word: u64,
+    pub numbers: Numbers,
 }
 
-// The numbers read so far.
-#[derive(Clone, Copy)]
-struct Numbers {
-    count: u64,
-    a: u64,
-    b: u64,
-    c: u64,
-}
-
-// The number v with the digit b after it: bad where b is no digit or the number is above 2^64 - 1.
-fn one_digit(v: u64, b: u8) -> Field
+// The number v with the digit b after it: none where b is no digit or the number is above 2^64 - 1.
+#[tactic(auto, using(crate::proofs::Fields::below_digits, crate::proofs::Fields::above_digits))]
+fn one_digit(v: u64, b: u8) -> Option<u64>
     ensures { result ≡ one_digit v b }
 {
-    if b < 48 {
-        return Field::Bad;
-    }
-    if b > 57 {
-        return Field::Bad;
-    }
-    if v > 1844674407370955161 {
-        return Field::Bad;
-    }
-    let d = (b - 48) as u64;
-    let t = v * 10;
-    if d > 18446744073709551615 - t {
-        return Field::Bad;
-    }
-    Field::Value(t + d)
+    let b'0'..=b'9' = b else {
+        return None;
+    };
+    let tens = v.checked_mul(10)?;
+    tens.checked_add(u64::from(b - b'0'))
 }
 
 // A whole field read as a number.
-fn number(s: &[u8]) -> Field
+#[tactic(auto, using(crate::proofs::Fields::number_empty, crate::proofs::Fields::number_long))]
+fn number(s: &[u8]) -> Option<u64>
     ensures { result ≡ number_field s.now }
 {
-    if s.len() == 0 {
-        return Field::Bad;
+    if s.is_empty() {
+        return None;
     }
     if s.len() > 20 {
-        return Field::Bad;
+        return None;
     }
     let mut value: u64 = 0;
-    let mut i = 0;
-    while i < s.len() {
-        let Field::Value(v) = one_digit(value, s[i]) else {
-            return Field::Bad;
-        };
-        value = v;
-        i += 1;
+    for b in s {
+        value = one_digit(value, *b)?;
     }
-    Field::Value(value)
-}
-
-fn wide(b: u8) -> u64
-    ensures { (result ≡ b) × (result < 256) }
-{
-    b as u64
+    Some(value)
 }
 
 // A whole field read as a command word.
-fn word(s: &[u8]) -> Field
+#[tactic(auto, using(crate::proofs::Fields::word_empty, crate::proofs::Fields::word_long, crate::proofs::Fields::word_refused))]
+fn word(s: &[u8]) -> Option<u64>
     ensures { result ≡ word_field s.now }
 {
-    if s.len() == 0 {
-        return Field::Bad;
+    if s.is_empty() {
+        return None;
     }
     if s.len() > 8 {
-        return Field::Bad;
+        return None;
     }
     let mut value: u64 = 0;
-    let mut i = 0;
-    while i < s.len() {
-        let b = wide(s[i]);
-        if b <= 32 {
-            return Field::Bad;
+    for b in s {
+        if *b <= b' ' {
+            return None;
         }
-        value = value * 256 + b;
-        i += 1;
+        value = value * 256 + u64::from(*b);
     }
-    Field::Value(value)
+    Some(value)
 }
 
-fn no_numbers() -> Numbers
-    ensures { result ≡ no_numbers }
+// One more number after those before; there is none where they are three.
+fn one_more(before: Numbers, v: u64) -> Option<Numbers>
+    ensures { result ≡ onto (Some before) v }
 {
-    Numbers {
-        count: 0,
-        a: 0,
-        b: 0,
-        c: 0,
-    }
-}
-
-// One more number, at the first place that is free.
-fn one_more(n: Numbers, v: u64) -> Numbers
-    requires { n.count < 3 }
-    ensures { result ≡ onto n v }
-{
-    if n.count == 0 {
-        return Numbers {
-            count: 1,
-            a: v,
-            b: n.b,
-            c: n.c,
-        };
-    }
-    if n.count == 1 {
-        return Numbers {
-            count: 2,
-            a: n.a,
-            b: v,
-            c: n.c,
-        };
-    }
-    Numbers {
-        count: 3,
-        a: n.a,
-        b: n.b,
-        c: v,
-    }
-}
-
-// The numbers that follow the word, which ends at `from`.
-fn rest_of_line(s: &[u8], from: usize, word: u64) -> Read
-    requires { from ≤ length s.now }
-    ensures { result ≡ line_from word no_numbers (after 32 (drop from s.now)) }
-{
-    let mut at = from;
-    let mut got = no_numbers();
-    while at < s.len() {
-        if got.count >= 3 {
-            return Read::Bad;
-        }
-        let start = at + 1;
-        let end = next(s, start, 32);
-        let Field::Value(v) = number(&s[start..end]) else {
-            return Read::Bad;
-        };
-        got = one_more(got, v);
-        at = end;
-    }
-    Read::Line {
-        word,
-        count: got.count,
-        a: got.a,
-        b: got.b,
-        c: got.c,
+    match before {
+        Numbers::Zero => Some(Numbers::One(v)),
+        Numbers::One(a) => Some(Numbers::Two(a, v)),
+        Numbers::Two(a, b) => Some(Numbers::Three(a, b, v)),
+        Numbers::Three(_, _, _) => None,
     }
 }
 
 // A line, without its line feed.
-pub fn read_line(s: &[u8]) -> Read
+pub fn read_line(s: &[u8]) -> Option<Line>
     ensures { result ≡ read_line s.now }
 {
     if s.len() > 128 {
-        return Read::Bad;
+        return None;
     }
-    let end = next(s, 0, 32);
-    let Field::Value(w) = word(&s[..end]) else {
-        return Read::Bad;
-    };
-    rest_of_line(s, end, w)
+    let mut fields = s.split(|b| *b == b' ');
+    let word = word(fields.next()?)?;
+    let mut numbers = Numbers::Zero;
+    for field in fields {
+        numbers = one_more(numbers, number(field)?)?;
+    }
+    Some(Line { word, numbers })
 }

@@ -7,12 +7,8 @@ ghost use Rattle.script.specs.Grammar.{up_to};
 pub fn next(s: &[u8], from: usize, stop: u8) -> usize
     ensures { result ≡ from + length (up_to stop (drop from s.now)) }
 {
-    let mut i = from;
-    while i < s.len() {
-        if s[i] == stop {
-            return i;
-        }
-        i += 1;
-    }
-    i
+    let Some(rest) = s.get(from..) else {
+        return from;
+    };
+    from + rest.iter().position(|b| *b == stop).unwrap_or(rest.len())
 }

@@ -7,10 +7,11 @@ fn glyph(d: u64) -> u8
     requires { d < 10 }
     ensures { result ≡ 48 + d }
 {
-    48 + d as u8
+    b'0' + d as u8
 }
 
 // Puts n's decimal digits at the end of d, and answers where they begin.
+// By hand, not by `Display`: the edits `digits-one-up` and `zero-in-front` are about digits that are put in one by one.
 fn spell(n: u64, d: &mut [u8]) -> usize
     requires { length d.old ≡ 20 }
     ensures { (result ≤ 20) × (drop result d.new ≡ decimal n) }
@@ -31,12 +32,7 @@ fn spell(n: u64, d: &mut [u8]) -> usize
 fn text_end(room: usize, at: usize, bytes: usize) -> usize
     ensures { result ≡ min (at + bytes) room }
 {
-    if at < room {
-        if bytes < room - at {
-            return at + bytes;
-        }
-    }
-    room
+    at.saturating_add(bytes).min(room)
 }
 
 // Writes a text at `at`, and answers where it ends.
@@ -44,10 +40,8 @@ pub fn write_text(out: &mut [u8], at: usize, text: &[u8]) -> usize
     ensures { Laid out.old at text.now out.new result }
 {
     let end = text_end(out.len(), at, text.len());
-    let mut i = at;
-    while i < end {
-        out[i] = text[i - at];
-        i += 1;
+    if at < end {
+        out[at..end].copy_from_slice(&text[..end - at]);
     }
     end
 }
@@ -74,10 +68,8 @@ fn write_numbers(out: &mut [u8], at: usize, ns: &[u64]) -> usize
     ensures { Laid out.old at (spaced ns.now) out.new result }
 {
     let mut end = text_end(out.len(), at, 0);
-    let mut i = 0;
-    while i < ns.len() {
-        end = write_spaced(out, end, ns[i]);
-        i += 1;
+    for n in ns {
+        end = write_spaced(out, end, *n);
     }
     end
 }

@@ -1,7 +1,7 @@
 -- Numbers to the base 2, digit by digit.
 -- Assumes nothing.
-use Prim.Native.Nat.{ℕ, zero, suc, ◌+◌, ◌-◌, ◌/◌, ◌%◌, ◌^◌, ◌≤◌, ◌<◌}
-use native.Mathlib.Nat.{div-one, div-div-eq-div-mul, pow-zero, pow-suc, pow-succ'}
+use Prim.Native.Nat.{ℕ, zero, suc, ◌+◌, ◌-◌, ◌*◌, ◌/◌, ◌%◌, ◌^◌, ◌≤◌, ◌<◌}
+use native.Mathlib.Nat.{zero-mul, one-mul, div-one, div-div-eq-div-mul, pow-zero, pow-suc, pow-succ'}
 use native.Mathlib.Omega.{arith}
 use mathlib.Core.Bool.{true, false}
 use mathlib.Core.Logic.{◌≢◌}
@@ -108,6 +108,16 @@ mark-zero m s h = omega (arith, unmarked-digit, bit-most s m)
     unmarked-digit : bit s m ≢ 1
     unmarked-digit = unfold bit in eqb-false (m / 2 ^ s % 2) 1 h
 
+-- What a number has in common with the power of 2 of a mark: all of it, or nothing.
+pub mark-masked : (m s : ℕ) → is_marked m s ≡ true → m / 2 ^ s % 2 * 2 ^ s ≡ 2 ^ s
+unfolding is_marked
+mark-masked m s h = ap (λ (d : ℕ). d * 2 ^ s) (eqb-true (m / 2 ^ s % 2) 1 h) ∙ one-mul (2 ^ s)
+
+pub unmark-masked : (m s : ℕ) → is_marked m s ≡ false → m / 2 ^ s % 2 * 2 ^ s ≡ 0
+unfolding is_marked
+unmark-masked m s h =
+    let clear : m / 2 ^ s % 2 ≡ 0 = omega (arith, eqb-false (m / 2 ^ s % 2) 1 h) in ap (λ (d : ℕ). d * 2 ^ s) clear ∙ zero-mul (2 ^ s)
+
 one-mark : (m s : ℕ) → bit s m ≡ 1 → is_marked m s ≡ true
 unfolding is_marked bit
 one-mark m s h = eq-eqb (m / 2 ^ s % 2) 1 h
@@ -162,12 +172,9 @@ unmarked-other m s t d =
     rw e (same-mark (m - 2 ^ s) m t (sym (rw back at kept))))
     (λ e. rw e)
 
--- A mark can be set within n digits, and taken away.
+-- A mark can be set within n digits.
 pub mark-fits : (n m s : ℕ) → s < n → m < 2 ^ n → is_marked m s ≡ false → m + 2 ^ s < 2 ^ n
 mark-fits n m s k h e = bit-fits n s m k h (mark-zero m s e)
-
-pub mark-within : (m s : ℕ) → is_marked m s ≡ true → 2 ^ s ≤ m
-mark-within m s e = bit-least s m (mark-one m s e)
 
 -- The word of a level keeps its 64 digits.
 pub marked-narrow : (n m s : ℕ) → s < n → m < 2 ^ n → marked m s < 2 ^ n

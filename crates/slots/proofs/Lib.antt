@@ -1,6 +1,5 @@
 -- Laws of the slots' lists.
 pub mod MarkDigits
-pub mod SlotSteps
 pub mod Linking
 pub mod Relinking
 pub mod OneRing

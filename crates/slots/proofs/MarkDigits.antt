@@ -1,30 +1,44 @@
 -- Marks as binary digits: setting and clearing one within 64, and the search for the lowest.
 -- Assumes nothing.
 use Prim.Native.Nat.{ℕ, zero, suc, ◌+◌, ◌-◌, ◌*◌, ◌/◌, ◌%◌, ◌^◌, ◌<◌}
-use native.Mathlib.Nat.{add-zero, add-suc, zero-add, suc-add, zero-mul, one-mul, zero-mod, zero-div, div-one, div-eq_of_lt, mod-eq_of_lt, lt_of_lt_of_le}
+use native.Mathlib.Nat.{add-zero, add-suc, zero-add, suc-add, one-mul, zero-div}
 use native.Mathlib.Omega.{arith}
 use mathlib.Core.Bool.{Bool, true, false, cond}
 use mathlib.Core.List.{List}
-use mathlib.Core.Path.{◌≡◌, refl, sym, ap, ◌∙◌, subst}
+use mathlib.Core.Path.{◌≡◌, refl, sym, ap, ◌∙◌}
+use Rattle.std.proofs.Common.{bit_and, bit_or}
+use Rattle.std.proofs.Math.Pow.{pow-lt}
+use Rattle.std.proofs.lemmas.Nat.{and_comm, and-not}
+use Rattle.std.proofs.lemmas.Nat.Bits.{and_pow}
+use Rattle.std.specs.Int.Bits.{or_add_and}
 use lib.Dec.{eqb, lit<}
 use lib.ListN.{get_or}
-use lib.Pow.{pow_mono, shl_exact, shr-shr, split, mod-mod-pow, field, mod-pow-add}
-use borrow.Author.Tests.{eq-eqb, ne_eqb}
-use Rattle.cells.proofs.Cases.{at_most?, same?}
-use Rattle.slots.specs.Rings.{is_marked, scan, slot_marked, passed}
-use Rattle.slots.specs.declared.slots.Passed.{Passed}
+use lib.Pow.{shl_exact}
+use Rattle.std.specs.Prelude.{Some, None}
+use borrow.Author.Tests.{eq-eqb, ne_eqb, lt-ltb}
+use Rattle.cells.proofs.Cases.{test}
+use Rattle.slots.specs.Rings.{is_marked, marked, unmarked, scan, slot_marked, slot_found}
+use Rattle.slots.proofs.Binary.{mark-masked, unmark-masked}
 
 -- `1 << s` at 64 digits.
 pub one_shl : (s : ℕ) → s < 64 → (1 * 2 ^ s) % 2 ^ 64 ≡ 2 ^ s
 one_shl s h = shl_exact {a = 1} 1 s 64 (lit< tt) (omega arith) ∙ one-mul (2 ^ s)
 
--- A number without the digits below k has 0 for each of them.
-digit_clear : (n k j : ℕ) → n % 2 ^ k ≡ 0 → j < k → n / 2 ^ j % 2 ≡ 0
-digit_clear n k j e h =
-    let parts : k - suc j + suc j ≡ k = omega arith in
-    let low : n % 2 ^ suc j ≡ 0 = sym (mod-mod-pow n (k - suc j) (suc j)) ∙ rw (parts, e) (zero-mod (2 ^ suc j)) in
-    let one : 1 + j ≡ suc j = omega arith in
-    sym (field n 1 j) ∙ rw (one, low) (zero-div (2 ^ j))
+-- The bits `m | 1 << s` are m with its mark s, and `m & !(1 << s)` is m without.
+pub or-marked : (m s : ℕ) → bit_or m (2 ^ s) ≡ marked m s
+unfolding marked
+or-marked m s =
+    test (is_marked m s)
+    (λ e. rw e (omega (arith, or_add_and m (2 ^ s), and_pow m s, mark-masked m s e)))
+    (λ e. rw e (omega (arith, or_add_and m (2 ^ s), and_pow m s, unmark-masked m s e)))
+
+pub and-unmarked : (m s : ℕ) → s < 64 → m < 2 ^ 64 → bit_and m (2 ^ 64 - 1 - 2 ^ s) ≡ unmarked m s
+unfolding unmarked
+and-unmarked m s h k =
+    let parts = and-not 64 (2 ^ s) m (pow-lt h) k in
+    test (is_marked m s)
+    (λ e. rw e (omega (arith, parts, and_comm m (2 ^ 64 - 1 - 2 ^ s), and_comm (2 ^ s) m, and_pow m s, mark-masked m s e)))
+    (λ e. rw e (omega (arith, parts, and_comm m (2 ^ 64 - 1 - 2 ^ s), and_comm (2 ^ s) m, and_pow m s, unmark-masked m s e)))
 
 -- The search goes on behind numbers that do not pass.
 scan-skip : (f : ℕ → Bool) (k n i : ℕ) → ((j : ℕ) → j < k → f (i + j) ≡ false) → scan f (k + n) i ≡ scan f n (i + k)
@@ -63,89 +77,17 @@ scan-shift f g d (suc n) i h =
     go true e = refl
     go false e = e
 
--- The search for the lowest digit 1 of x has come to digit s: rest has the digits from there on, and is not 0.
-pub record Lowest (x s rest : ℕ) : Type 0 where
-  pub some : 0 < rest
-  pub rests : rest ≡ x / 2 ^ s
-  pub ends : scan (is_marked x) 64 0 ≡ scan (is_marked x) (64 - s) s
-
-pub lowest_start : (x : ℕ) → 0 < x → Lowest x 0 x
-lowest_start x h = record { some = h; rests = sym (div-one x); ends = refl }
-
--- Behind 64 digits nothing is left.
-digits-end : (x n : ℕ) → x < 2 ^ 64 → 0 < x / 2 ^ n → n < 64
-digits-end x n h some =
-    at_most? 64 n (λ k. let none = div-eq_of_lt (lt_of_lt_of_le h (pow_mono k)) in absurd (omega arith)) (λ k. k)
-
-pub lowest-small : (x s rest : ℕ) → x < 2 ^ 64 → Lowest x s rest → s < 64
-lowest-small x s rest h l = digits-end x s h (omega (arith, l.some, l.rests))
-
--- Digits that are 0 are passed, k at a time.
-pub lowest-on : (k x s rest : ℕ) → x < 2 ^ 64 → Lowest x s rest → rest % 2 ^ k ≡ 0 → Lowest x (s + k) (rest / 2 ^ k)
+-- The search for the lowest digit 1 of x finds its count of trailing zeros.
+pub lowest-counted : (x n : ℕ) → n < 64 → x / 2 ^ n % 2 ≡ 1 → ((i : ℕ) → i < n → x / 2 ^ i % 2 ≡ 0) → n ≡ scan (is_marked x) 64 0
 unfolding is_marked
-lowest-on k x s rest h l e = record { some = more; rests = ahead k; ends = l.ends ∙ on }
-  where
-    ahead : (j : ℕ) → rest / 2 ^ j ≡ x / 2 ^ (s + j)
-    ahead j = ap (λ (n : ℕ). n / 2 ^ j) l.rests ∙ shr-shr x s j
-
-    more : 0 < rest / 2 ^ k
-    more =
-        at_most? 1 (rest / 2 ^ k) (λ m. m)
-        (λ m. let none : rest / 2 ^ k ≡ 0 = omega arith in
-        absurd (omega (arith, l.some, split rest k, ap (λ (n : ℕ). n * 2 ^ k) none, zero-mul (2 ^ k))))
-
-    on : scan (is_marked x) (64 - s) s ≡ scan (is_marked x) (64 - (s + k)) (s + k)
-    on =
-        let parts : 64 - s ≡ k + (64 - (s + k)) = omega (arith, digits-end x (s + k) h (omega (arith, more, ahead k))) in
-        rw parts
-        (scan-skip (is_marked x) k (64 - (s + k)) s
-        (λ j m. let zero-here = digit_clear rest k j e m in ne_eqb (x / 2 ^ (s + j) % 2) 1 (λ one. omega (arith, ap (λ (n : ℕ). n % 2) (ahead j)))))
-
-pub lowest-end : (x s rest : ℕ) → x < 2 ^ 64 → Lowest x s rest → (rest % 2 ≡ 0 → ⊥) → s ≡ scan (is_marked x) 64 0
-unfolding is_marked
-lowest-end x s rest h l d =
-    let short = lowest-small x s rest h l in
-    let some : 64 - s ≡ suc (63 - s) = omega arith in
-    let here : eqb (x / 2 ^ s % 2) 1 ≡ true = eq-eqb (x / 2 ^ s % 2) 1 (omega (arith, d, ap (λ (n : ℕ). n % 2) l.rests)) in
-    sym (l.ends ∙ rw some (scan-here (is_marked x) (63 - s) s here))
-
--- The search by halves: what is left is not all 0 in its lowest k digits.
-pub record Halved (x k : ℕ) (p : Passed) : Type 0 where
-  pub low : Lowest x p.digits p.rest
-  pub some : p.rest % 2 ^ k ≡ 0 → ⊥
-
-pub halved-start : (x : ℕ) → x < 2 ^ 64 → 0 < x → Halved x 64 (record { digits = 0; rest = x })
-halved-start x h some =
-    record { low = lowest_start x some; some = λ e. let same : x % 2 ^ 64 ≡ x = mod-eq_of_lt h in absurd (omega arith) }
-
-pub halved-small : (x k : ℕ) (p : Passed) → x < 2 ^ 64 → Halved x k p → p.digits < 64
-halved-small x k p h s = lowest-small x p.digits p.rest h s.low
-
--- Where both halves of 2 k digits are 0, so are all of them.
-halves-clear : (n k : ℕ) → n % 2 ^ k ≡ 0 → n / 2 ^ k % 2 ^ k ≡ 0 → n % 2 ^ (k + k) ≡ 0
-halves-clear n k e f = mod-pow-add n k k ∙ omega (arith, e, ap (λ (m : ℕ). m * 2 ^ k) f, zero-mul (2 ^ k))
-
--- A choice number by number, by one test, is the step.
-pub passed-picked : (p : Passed) (k span digits rest : ℕ) (t : Bool) → span ≡ 2 ^ k → t ≡ eqb (p.rest % span) 0
-    → digits ≡ cond t (p.digits + k) p.digits
-    → rest ≡ cond t (p.rest / span) p.rest
-    → ◌≡◌ {A = Passed} (record { digits = digits; rest = rest }) (passed p k)
-unfolding passed
-passed-picked p k span digits rest t e f g h = cc
-
--- The lower half is passed if it is all 0.
-pub halved-on : (x k : ℕ) (p q : Passed) → x < 2 ^ 64 → Halved x (k + k) p → q ≡ passed p k → Halved x k q
-unfolding passed
-halved-on x k p q h s is =
-    subst (λ (r : Passed). Halved x k r) (sym is)
-    (same? (p.rest % 2 ^ k) 0
-    (λ e.
-    rw (eq-eqb (p.rest % 2 ^ k) 0 e)
-    (record { low = lowest-on k x p.digits p.rest h s.low e; some = λ f. s.some (halves-clear p.rest k e f) }))
-    (λ d. rw (ne_eqb (p.rest % 2 ^ k) 0 d) (record { low = s.low; some = d })))
-
-pub halved-end : (x : ℕ) (p : Passed) → x < 2 ^ 64 → Halved x 1 p → p.digits ≡ scan (is_marked x) 64 0
-halved-end x p h s = lowest-end x p.digits p.rest h s.low s.some
+lowest-counted x n h one none =
+    let parts : 64 ≡ n + suc (63 - n) = omega arith in
+    let here : eqb (x / 2 ^ n % 2) 1 ≡ true = eq-eqb (x / 2 ^ n % 2) 1 one in
+    sym
+    (ap (λ (k : ℕ). scan (is_marked x) k 0) parts
+    ∙ scan-skip (is_marked x) n (suc (63 - n)) 0
+    (λ j k. rw zero-add (ne_eqb (x / 2 ^ j % 2) 1 (λ e. omega (arith, none j k))))
+    ∙ rw zero-add (scan-here (is_marked x) (63 - n) n here))
 
 -- A digit of a level's word is the mark of a slot.
 pub slot-digit : (marks : List ℕ) (p t : ℕ) → t < 64 → slot_marked marks (p * 64 + t) ≡ is_marked (get_or marks p 0) t
@@ -179,3 +121,12 @@ module _ (marks : List ℕ) (p m : ℕ) (h : p < 6) (e : m ≡ get_or marks p 0)
 pub level-end : (marks : List ℕ) (p : ℕ) → p ≡ 6 → scan (slot_marked marks) (384 - p * 64) (p * 64) ≡ 384
 unfolding scan
 level-end marks p e = rw e
+
+-- A number below 384 is a slot's, and 384 is none's.
+pub found-is : (i n : ℕ) → i ≡ n → i < 384 → Some i ≡ slot_found n
+unfolding slot_found
+found-is i n e h = rw (← e, lt-ltb i 384 h)
+
+pub found-out : (n : ℕ) → n ≡ 384 → None ≡ slot_found n
+unfolding slot_found
+found-out n e = rw e

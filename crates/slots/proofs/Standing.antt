@@ -8,12 +8,13 @@ use mathlib.Core.Logic.{◌≢◌}
 use mathlib.Core.Path.{◌≡◌, refl, sym, ap, ◌∙◌}
 use lib.ListN.{length, get_or, replicate, length-replicate}
 use lib.Seq.{ext_get_or}
-use borrow.Author.Tests.{eq-eqb, ne_eqb}
-use Rattle.cells.proofs.Cases.{same?}
+use borrow.Author.Tests.{eq-eqb, ne_eqb, lt-ltb, le-ltb}
+use Rattle.std.specs.Prelude.{Option, Some, None}
+use Rattle.cells.proofs.Cases.{at_most?, same?}
 use Rattle.cells.specs.Lists.{times}
 use Rattle.cells.specs.Stack.{no_cell, Chain}
 use Rattle.cells.specs.Words.{word}
-use Rattle.slots.specs.Rings.{next, previous, Lists, ends_of, scan, slot_marked, first_marked}
+use Rattle.slots.specs.Rings.{next, previous, Lists, ends_of, scan, slot_marked, first_marked, slot_found}
 use Rattle.slots.specs.Stand.{due_list, ends_at, has_cells, Stand}
 use Rattle.slots.specs.declared.ring.Ends.{Ends}
 use Rattle.slots.proofs.MarkDigits.{slot-digit}
@@ -78,6 +79,22 @@ marked-first l ls s =
 
     found : Least (slot_marked l.marks) 384 0 n
     found = scan-least (slot_marked l.marks) 384 0
+
+-- A slot that is found is the first marked one, and where none is found none is marked.
+pub found-some : (n i : ℕ) → Some i ≡ slot_found n → (i ≡ n) × (i < due_list)
+unfolding slot_found
+found-some n i e =
+    at_most? 384 n
+    (λ k. let h : ◌≡◌ {A = Option ℕ} (Some i) None = e ∙ rw (le-ltb n 384 k) in cc)
+    (λ k. let h : Some i ≡ Some n = e ∙ rw (lt-ltb n 384 k) in let same : i ≡ n = cc in (same, omega arith))
+
+pub found-none : (marks : List ℕ) → None ≡ slot_found (first_marked marks) → first_marked marks ≡ due_list
+unfolding slot_found first_marked
+found-none marks e =
+    let n : ℕ = scan (slot_marked marks) 384 0 in
+    at_most? 384 n
+    (λ k. omega (arith, (scan-least (slot_marked marks) 384 0).most))
+    (λ k. let h : ◌≡◌ {A = Option ℕ} None (Some n) = e ∙ rw (lt-ltb n 384 k) in cc)
 
 -- The ends of a slot stand in the arrays.
 pub slot-first : (l : Lists) (i : ℕ) → i ≢ due_list → (ends_at l i).first ≡ get_or l.first i no_cell

@@ -1,10 +1,9 @@
 -- Lists of cells in lent words, linked both ways, on any words whatever.
 -- Assumes nothing.
-use Rattle.std.specs.Prelude.{ℕ, zero, suc, ◌+◌, ◌-◌, ◌/◌, ◌%◌, ◌^◌, Bool, cond, ◌&&◌, List, ltb, eqb, length, get_or, set}
+use Rattle.std.specs.Prelude.{ℕ, zero, suc, ◌+◌, ◌-◌, ◌/◌, ◌%◌, ◌^◌, Bool, cond, ◌&&◌, List, Option, Some, None, ltb, eqb, length, get_or, set}
 use Rattle.cells.specs.Stack.{no_cell}
 use Rattle.cells.specs.Words.{word, put_word}
 use Rattle.slots.specs.declared.ring.Ends.{Ends}
-use Rattle.slots.specs.declared.slots.Passed.{Passed}
 
 -- The words and the ends of one list.
 pub record Ring : Type 0 where
@@ -102,14 +101,6 @@ unfoldable pub scan : (ℕ → Bool) → ℕ → ℕ → ℕ
 scan passes zero i = i
 scan passes (suc k) i = cond (passes i) i (scan passes k (suc i))
 
--- A search for the lowest digit 1 passes k digits if they are all 0.
-unfoldable pub passed : Passed → ℕ → Passed
-passed p k =
-    record {
-      digits = cond (eqb (p.rest % 2 ^ k) 0) (p.digits + k) p.digits;
-      rest = cond (eqb (p.rest % 2 ^ k) 0) (p.rest / 2 ^ k) p.rest;
-    }
-
 -- Slot i is marked.
 unfoldable pub slot_marked : List ℕ → ℕ → Bool
 slot_marked marks i = is_marked (get_or marks (i / 64) 0) (i % 64)
@@ -117,6 +108,10 @@ slot_marked marks i = is_marked (get_or marks (i / 64) 0) (i % 64)
 -- The first marked slot, level by level; 384 where none is.
 unfoldable pub first_marked : List ℕ → ℕ
 first_marked marks = scan (slot_marked marks) 384 0
+
+-- The slot of that number, if it is one of the 384.
+unfoldable pub slot_found : ℕ → Option ℕ
+slot_found i = cond (ltb i 384) (Some i) None
 
 -- Lists as they are lent to a function of the slots, which has no due list.
 abbrev pub lent : List ℕ → List ℕ → List ℕ → List ℕ → Lists

@@ -8,7 +8,7 @@ ghost use Rattle.slots.specs.Rings.{relinked, joined, left};
 
 use cells::words::{get, put};
 
-// The first and the last cell, 4096 for both where the list is empty.
+// The first and the last cell, 4096 for both where the list is empty. No Option: so they stand in the lent words and in the wheel's head.
 #[derive(Clone, Copy)]
 pub struct Ends {
     pub first: u64,
@@ -40,6 +40,7 @@ fn precede(w: &mut [u64], last: u64, a: u64, b: u64) -> u64
 }
 
 // Lets b follow a.
+#[tactic(auto, unfolding(crate::specs::Rings::relinked))]
 fn relink(w: &mut [u64], e: Ends, a: u64, b: u64) -> Ends
     ensures words { w.new ≡ (relinked w.old e a b).words }
     ensures ends { result ≡ (relinked w.old e a b).ends }
@@ -50,6 +51,7 @@ fn relink(w: &mut [u64], e: Ends, a: u64, b: u64) -> Ends
 }
 
 // Cell c joins at the tail.
+#[tactic(auto, unfolding(crate::specs::Rings::joined))]
 pub fn join(w: &mut [u64], e: Ends, c: u64) -> Ends
     ensures words { w.new ≡ (joined w.old e c).words }
     ensures ends { result ≡ (joined w.old e c).ends }
@@ -59,6 +61,7 @@ pub fn join(w: &mut [u64], e: Ends, c: u64) -> Ends
 }
 
 // Cell c leaves the list, wherever it stands in it. Its own words stay.
+#[tactic(auto, unfolding(crate::specs::Rings::left))]
 pub fn leave(w: &mut [u64], e: Ends, c: u64) -> Ends
     ensures words { w.new ≡ (left w.old e c).words }
     ensures ends { result ≡ (left w.old e c).ends }

@@ -6,14 +6,12 @@ use audits::sweep::{Findings, swept};
 use wheel_rules::walk::{Noted, walked};
 
 // What one pass over the cells tells: 0 where an entry is not sound, 1 where the tables gave up, 2 where they know that the numbers differ.
-fn told(f: Findings) -> u64 {
-    if !f.sound {
-        return 0;
+fn told(findings: Option<Findings>) -> u64 {
+    match findings {
+        None => 0,
+        Some(Findings { left: 0, .. }) => 1,
+        Some(_) => 2,
     }
-    if f.left == 0 {
-        return 1;
-    }
-    2
 }
 
 // One pass over the cells, numbers evenly spread (`scattered` 0) or scattered as well: the cells and the counter as two numbers, the mask
@@ -29,14 +27,11 @@ pub extern "C" fn wastelquib_test_tables(
 }
 
 // What a walk along the lists tells: 0 where one is not sound, 1 where order numbers do not rise along each, 2 where they do.
-fn walk_told(n: Noted) -> u64 {
-    if !n.sound {
-        return 0;
+fn walk_told(noted: Option<Noted>) -> u64 {
+    match noted {
+        None => 0,
+        Some(found) => 1 + u64::from(found.rise),
     }
-    if n.rise {
-        return 2;
-    }
-    1
 }
 
 // The walk along a wheel's lists, by the ends of its slots and its six numbers.

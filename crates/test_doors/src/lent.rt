@@ -1,6 +1,8 @@
 // Reading and writing of lent slices, and answers as plain numbers.
 
-// An answer: its kind, 0 where it is refused, and its numbers; the number of a refusal is the first.
+use cells::refusal::Refusal;
+
+// An answer as C reads it, six plain numbers: its kind, 0 where it is refused, and its data; the number of a refusal is the first.
 #[derive(Clone, Copy)]
 pub struct Told {
     pub kind: u64,
@@ -28,57 +30,56 @@ pub fn refused(i: u64) -> Told {
     answer(0, i, 0, 0)
 }
 
+impl From<Refusal> for Told {
+    fn from(why: Refusal) -> Told {
+        refused(u64::from(why))
+    }
+}
+
+// A set-up, and a wheel's move: no number.
+impl From<()> for Told {
+    fn from(_done: ()) -> Told {
+        answer(1, 0, 0, 0)
+    }
+}
+
+// A wheel's cancel: the load. A queue's rekey: the moves.
+impl From<u64> for Told {
+    fn from(number: u64) -> Told {
+        answer(1, number, 0, 0)
+    }
+}
+
+// The answer of a call that may be refused.
+impl<T: Into<Told>> From<Result<T, Refusal>> for Told {
+    fn from(answer: Result<T, Refusal>) -> Told {
+        match answer {
+            Ok(x) => x.into(),
+            Err(why) => Told::from(why),
+        }
+    }
+}
+
 // Word j, or 0 where there is none.
 pub fn read(w: &[u64], j: usize) -> u64 {
-    if j < w.len() {
-        return w[j];
-    }
-    0
+    w.get(j).copied().unwrap_or(0)
 }
 
-// Writes word j, where there is one.
-fn write(w: &mut [u64], j: usize, x: u64) {
-    if j < w.len() {
-        w[j] = x;
+// Writes numbers, as far as there are words for them.
+pub fn write_numbers(w: &mut [u64], numbers: &[u64]) {
+    for (word, number) in w.iter_mut().zip(numbers) {
+        *word = *number;
     }
 }
 
-// Writes three words from word j on, j at most 3.
-fn write_three(w: &mut [u64], j: u16, a: u64, b: u64, c: u64) {
-    let i = j as usize;
-    write(w, i, a);
-    write(w, i + 1, b);
-    write(w, i + 2, c);
-}
-
-// Writes six numbers, as far as there are words for them.
+// Writes the six numbers of an answer.
 pub fn write_six(w: &mut [u64], x: Told) {
-    write_three(w, 0, x.kind, x.a, x.b);
-    write_three(w, 3, x.c, x.d, x.e);
+    write_numbers(w, &[x.kind, x.a, x.b, x.c, x.d, x.e]);
 }
 
-// Copies ends of lists: fills `to`, where `from` is as long.
-pub fn copy_ends(to: &mut [u16], from: &[u16]) {
-    let n = to.len();
-    if from.len() < n {
-        return;
-    }
-    let mut i = 0;
-    while i < n {
-        to[i] = from[i];
-        i += 1;
-    }
-}
-
-// Copies words: fills `to`, where `from` is as long.
-pub fn copy_words(to: &mut [u64], from: &[u64]) {
-    let n = to.len();
-    if from.len() < n {
-        return;
-    }
-    let mut i = 0;
-    while i < n {
-        to[i] = from[i];
-        i += 1;
+// Copies all, where both are as long.
+pub fn copy<T: Copy>(to: &mut [T], from: &[T]) {
+    if to.len() == from.len() {
+        to.copy_from_slice(from);
     }
 }

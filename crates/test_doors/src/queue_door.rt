@@ -1,9 +1,9 @@
 // The ready queue's set-up, audit, checked calls and quick calls, the head lent as five numbers: the arity, the number of entries, the cells, the top of
 // the free stack, the counter.
 
-use crate::lent::{Told, read, write_six};
-use crate::queue_told::{Turn, of_first, of_put, of_rekey, of_remove, of_set_up, of_take};
-use cells::store::Store;
+use crate::lent::{Told, read, write_numbers, write_six};
+use cells::refusal::Refusal;
+use cells::store::{Handle, Store};
 use queue::audit::audit;
 use queue::head::Head;
 use queue::setup::set_up;
@@ -23,73 +23,61 @@ fn head_of(numbers: &[u64]) -> Head {
     }
 }
 
-// Writes a head into five lent numbers: there is no sixth to write.
-fn put_head(numbers: &mut [u64], h: Head) {
+// Writes a head into its lent numbers.
+fn put_head(numbers: &mut [u64], h: &Head) {
     let store = h.store;
-    write_six(
+    write_numbers(
         numbers,
-        Told {
-            kind: h.arity,
-            a: h.count,
-            b: store.cells,
-            c: store.free,
-            d: store.counter,
-            e: 0,
-        },
+        &[h.arity, h.count, store.cells, store.free, store.counter],
     );
 }
 
+// Sets a queue up: a refused set-up keeps the head.
+fn begin(w: &mut [u64], h: &mut Head, arity: u64) -> Result<(), Refusal> {
+    *h = set_up(w, arity)?;
+    Ok(())
+}
+
 // The checked call of this number: 0 set-up, 1 put, 2 rekey, 3 remove, 4 take, else first.
-fn run_checked(w: &mut [u64], h: Head, call: u64, a: u64, b: u64, c: u64) -> Turn {
-    if call == 0 {
-        return of_set_up(set_up(w, a), h);
+fn run_checked(w: &mut [u64], h: &mut Head, call: u64, a: u64, b: u64, c: u64) -> Told {
+    let at = Handle { cell: a, ticket: b };
+    match call {
+        0 => Told::from(begin(w, h, a)),
+        1 => Told::from(checked::put(w, h, a, b)),
+        2 => Told::from(checked::rekey(w, h, at, c)),
+        3 => Told::from(checked::remove(w, h, at)),
+        4 => Told::from(checked::take(w, h)),
+        _ => Told::from(checked::first(w, h)),
     }
-    if call == 1 {
-        return of_put(checked::put(w, h, a, b));
-    }
-    if call == 2 {
-        return of_rekey(checked::rekey(w, h, a, b, c));
-    }
-    if call == 3 {
-        return of_remove(checked::remove(w, h, a, b));
-    }
-    if call == 4 {
-        return of_take(checked::take(w, h));
-    }
-    of_first(checked::first(w, h), h)
 }
 
 // The quick call of this number: 17 put, 18 rekey, 19 remove, 20 take, else first.
-fn run_quick(w: &mut [u64], h: Head, call: u64, a: u64, b: u64, c: u64) -> Turn {
-    if call == 17 {
-        return of_put(quick::put(w, h, a, b));
+fn run_quick(w: &mut [u64], h: &mut Head, call: u64, a: u64, b: u64, c: u64) -> Told {
+    let at = Handle { cell: a, ticket: b };
+    match call {
+        17 => Told::from(quick::put(w, h, a, b)),
+        18 => Told::from(quick::rekey(w, h, at, c)),
+        19 => Told::from(quick::remove(w, h, at)),
+        20 => Told::from(quick::take(w, h)),
+        _ => Told::from(quick::first(w, h)),
     }
-    if call == 18 {
-        return of_rekey(quick::rekey(w, h, a, b, c));
-    }
-    if call == 19 {
-        return of_remove(quick::remove(w, h, a, b));
-    }
-    if call == 20 {
-        return of_take(quick::take(w, h));
-    }
-    of_first(quick::first(w, h), h)
 }
 
 // A checked call by a number below 16, a quick call by the same number and 16.
-fn run(w: &mut [u64], h: Head, call: u64, a: u64, b: u64, c: u64) -> Turn {
+fn run(w: &mut [u64], h: &mut Head, call: u64, a: u64, b: u64, c: u64) -> Told {
     if call < 16 {
-        return run_checked(w, h, call, a, b, c);
+        run_checked(w, h, call, a, b, c)
+    } else {
+        run_quick(w, h, call, a, b, c)
     }
-    run_quick(w, h, call, a, b, c)
 }
 
-// Makes a call, and writes the answer into `told`: 0, or 65535 where there are not five numbers and nothing is called.
+// Makes a call, and writes it into `answer`: 0, or 65535 where there are not five numbers and nothing is called.
 #[unsafe(no_mangle)]
 pub extern "C" fn wastelquib_test_queue(
     w: &mut [u64],
     numbers: &mut [u64],
-    told: &mut [u64],
+    answer: &mut [u64],
     call: u64,
     a: u64,
     b: u64,
@@ -98,11 +86,10 @@ pub extern "C" fn wastelquib_test_queue(
     if numbers.len() != 5 {
         return 65535;
     }
-    let t = run(w, head_of(numbers), call, a, b, c);
-    let head = t.head;
-    let answer = t.told;
-    put_head(numbers, head);
-    write_six(told, answer);
+    let mut head = head_of(numbers);
+    let done = run(w, &mut head, call, a, b, c);
+    put_head(numbers, &head);
+    write_six(answer, done);
     0
 }
 
@@ -112,8 +99,5 @@ pub extern "C" fn wastelquib_test_queue_audit(w: &[u64], numbers: &[u64]) -> u64
     if numbers.len() != 5 {
         return 65535;
     }
-    if audit(w, head_of(numbers)) {
-        return 1;
-    }
-    0
+    u64::from(audit(w, &head_of(numbers)))
 }

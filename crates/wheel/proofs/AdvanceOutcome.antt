@@ -6,14 +6,20 @@ use mathlib.Core.List.{List, [], ◌∷◌}
 use mathlib.Core.Path.{◌≡◌, refl, sym, ap, ◌∙◌}
 use lib.ListN.{length, get_or, drop, length-drop}
 use lib.Seq.{drop-drop}
+use mathlib.Core.Bool.{cond}
+use lib.Dec.{eqb}
+use Rattle.std.specs.Prelude.{Result, Ok, Err}
+use Rattle.cells.specs.Causes.{number_of}
+use Rattle.cells.specs.declared.refusal.Refusal.{Refusal}
+use Rattle.cells.specs.declared.refusal.Refusal.TheVariants as refusal
 use Rattle.cells.proofs.Cases.{test, clash}
-use Rattle.meaning.specs.Calls.{Shown, Answer, is_refused, report_of}
+use Rattle.meaning.specs.Calls.{Shown, Answer, Refused, is_refused, report_of}
 use Rattle.slots.specs.Rings.{Lists}
-use Rattle.wheel.specs.Answers.{record_in, records_in, report, told_advance, written}
+use Rattle.wheel.specs.Answers.{told, record_in, records_in, report, reported, told_advance, written}
 use Rattle.wheel_rules.specs.AuditTests.{audit_test}
 use Rattle.wheel.specs.Promise.{head_lists, Broken, CheckedAdvance}
-use Rattle.wheel.specs.declared.head.AdvanceAnswer.{AdvanceAnswer}
-use Rattle.wheel.specs.declared.head.AdvanceAnswer.TheVariants as advance
+use Rattle.wheel.specs.declared.head.Advanced.{Advanced}
+use Rattle.wheel.specs.declared.head.Advanced.TheVariants as advanced
 use Rattle.dial.specs.declared.state.Dial.{Dial}
 use Rattle.wheel.specs.declared.head.Head.{Head}
 use Rattle.wheel_rules.proofs.Audits.{audit-decides}
@@ -84,33 +90,68 @@ reports-same k k' xs ys out l r p q =
     ap (λ (n : ℕ). drop (n * 4) ys) same ∙ q ∙ ap (λ (n : ℕ). drop (n * 4) out) (sym same) in
     (same, outputs-same k xs ys l there (p ∙ sym rest))
 
+-- The cause of a number.
+cause_of : ℕ → Refusal
+cause_of i =
+    cond (eqb i 1) refusal.BadSize
+    (cond (eqb i 2) refusal.BadArity
+    (cond (eqb i 3) refusal.NotAfter
+    (cond (eqb i 4) refusal.Behind
+    (cond (eqb i 5) refusal.Beyond
+    (cond (eqb i 6) refusal.Full
+    (cond (eqb i 7) refusal.Stale
+    (cond (eqb i 8) refusal.Spent
+    (cond (eqb i 9) refusal.Unsound refusal.Empty))))))))
+
+numbered : (r : Refusal) → cause_of (number_of r) ≡ r
+unfolding cause_of
+numbered refusal.BadSize = refl
+numbered refusal.BadArity = refl
+numbered refusal.NotAfter = refl
+numbered refusal.Behind = refl
+numbered refusal.Beyond = refl
+numbered refusal.Full = refl
+numbered refusal.Stale = refl
+numbered refusal.Spent = refl
+numbered refusal.Unsound = refl
+numbered refusal.Empty = refl
+
+-- Two causes of one number are one.
+one-cause : (r s : Refusal) → number_of r ≡ number_of s → r ≡ s
+one-cause r s e = sym (numbered r) ∙ ap cause_of e ∙ numbered s
+
+-- The number of a refusal that is told.
+refusal_in : Answer → ℕ
+refusal_in (Refused i) = i
+refusal_in a = 0
+
 -- What an advance told, and the output it left, are determined by its answer and what stands behind the records.
-told_same : (a a' : AdvanceAnswer) (xs ys out : List ℕ) → length xs ≡ length ys → told_advance a xs ≡ told_advance a' ys
+told_same : (a a' : Result Advanced Refusal) (xs ys out : List ℕ) → length xs ≡ length ys → told_advance a xs ≡ told_advance a' ys
     → drop (written a * 4) xs ≡ drop (written a * 4) out → drop (written a' * 4) ys ≡ drop (written a' * 4) out → (a ≡ a') × (xs ≡ ys)
-unfolding told_advance written report is_refused report_of
-told_same (advance.Refused i) (advance.Refused j) xs ys out l e p q =
-    let same : ◌≡◌ {A = ℕ} i j = cc in
-    (ap advance.Refused same, p ∙ sym q)
-told_same (advance.Refused i) (advance.Done k c v) xs ys out l e p q = clash (ap is_refused (sym e)) refl
-told_same (advance.Refused i) (advance.More k c v) xs ys out l e p q = clash (ap is_refused (sym e)) refl
-told_same (advance.Done k c v) (advance.Refused i) xs ys out l e p q = clash (ap is_refused e) refl
-told_same (advance.More k c v) (advance.Refused i) xs ys out l e p q = clash (ap is_refused e) refl
-told_same (advance.Done k c v) (advance.More k' c' v') xs ys out l e p q = clash (ap (λ (b : Answer). (report_of b).done) (sym e)) refl
-told_same (advance.More k c v) (advance.Done k' c' v') xs ys out l e p q = clash (ap (λ (b : Answer). (report_of b).done) e) refl
-told_same (advance.Done k c v) (advance.Done k' c' v') xs ys out l e p q =
+unfolding told_advance told reported written report is_refused report_of refusal_in
+told_same (Err r) (Err s) xs ys out l e p q =
+    let same : r ≡ s = one-cause r s (ap refusal_in e) in
+    (ap (λ (c : Refusal). Err c) same, p ∙ sym q)
+told_same (Err r) (Ok (advanced.Done k c v)) xs ys out l e p q = clash (ap is_refused (sym e)) refl
+told_same (Err r) (Ok (advanced.More k c v)) xs ys out l e p q = clash (ap is_refused (sym e)) refl
+told_same (Ok (advanced.Done k c v)) (Err r) xs ys out l e p q = clash (ap is_refused e) refl
+told_same (Ok (advanced.More k c v)) (Err r) xs ys out l e p q = clash (ap is_refused e) refl
+told_same (Ok (advanced.Done k c v)) (Ok (advanced.More k' c' v')) xs ys out l e p q = clash (ap (λ (b : Answer). (report_of b).done) (sym e)) refl
+told_same (Ok (advanced.More k c v)) (Ok (advanced.Done k' c' v')) xs ys out l e p q = clash (ap (λ (b : Answer). (report_of b).done) e) refl
+told_same (Ok (advanced.Done k c v)) (Ok (advanced.Done k' c' v')) xs ys out l e p q =
     let same = reports-same k k' xs ys out l (ap (λ (b : Answer). (report_of b).fired) e) p q in
     let clock : c ≡ c' = ap (λ (b : Answer). (report_of b).clock) e in
     let moves : v ≡ v' = ap (λ (b : Answer). (report_of b).moves) e in
     let count : k ≡ k' = same.0 in
     (cc, same.1)
-told_same (advance.More k c v) (advance.More k' c' v') xs ys out l e p q =
+told_same (Ok (advanced.More k c v)) (Ok (advanced.More k' c' v')) xs ys out l e p q =
     let same = reports-same k k' xs ys out l (ap (λ (b : Answer). (report_of b).fired) e) p q in
     let clock : c ≡ c' = ap (λ (b : Answer). (report_of b).clock) e in
     let moves : v ≡ v' = ap (λ (b : Answer). (report_of b).moves) e in
     let count : k ≡ k' = same.0 in
     (cc, same.1)
 
-module _ (target : ℕ) (h : Head) (w out : List ℕ) (a₁ a₂ : AdvanceAnswer) (h₁ h₂ : Head) (w₁ w₂ out₁ out₂ : List ℕ) where
+module _ (target : ℕ) (h : Head) (w out : List ℕ) (a₁ a₂ : Result Advanced Refusal) (h₁ h₂ : Head) (w₁ w₂ out₁ out₂ : List ℕ) where
   -- The same answer, head, words and output.
   pub record SameAdvance : Type 0 where
     pub answer : a₁ ≡ a₂

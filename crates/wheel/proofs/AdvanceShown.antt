@@ -31,37 +31,45 @@ use Rattle.dial.proofs.Facts.{facts}
 use Rattle.dial.proofs.Recording.{records-length}
 use Rattle.dial.proofs.TurnsFramed.{turns-framed}
 use Rattle.dial.proofs.Advanced.{Advanced, report, advance-advanced}
-use Rattle.wheel.specs.Answers.{record_in, records_in, told_advance, written}
+use Rattle.std.specs.Prelude.{Option, Some, None, Result, Err}
+use Rattle.cells.specs.Causes.{number_of}
+use Rattle.cells.specs.declared.refusal.Refusal.{Refusal}
+use Rattle.cells.specs.declared.refusal.Refusal.TheVariants as refusal
+use Rattle.wheel.specs.Answers.{told, record_in, records_in, reported, told_advance, written}
 use Rattle.wheel.specs.Answers as answers
 use Rattle.wheel.specs.Promise.{DialShows, Done, Advances}
 use Rattle.wheel.specs.Refiled.{ended_with, ended_answer}
 use Rattle.dial.specs.declared.state.Dial.{Dial}
-use Rattle.wheel.specs.declared.head.AdvanceAnswer.{AdvanceAnswer}
-use Rattle.wheel.specs.declared.head.AdvanceAnswer.TheVariants as advance
+use Rattle.wheel.specs.declared.head.Advanced as head_advanced
 use Rattle.wheel.proofs.CallsShown.{refused-done}
+
+-- An advance's promise is one of the lists, however they are held.
+pub held-advances : (target : ℕ) (l : Lists) (d : Dial) (out : List ℕ) (a : Result head_advanced.Advanced Refusal) (l' l'' : Lists) (d' : Dial) (out' : List ℕ)
+    → Advances target l d out a l' d' out' → l' ≡ l'' → Advances target l d out a l'' d' out'
+held-advances target l d out a l' l'' d' out' p e = subst (λ (x : Lists). Advances target l d out a x d' out') e p
 
 module _ (target : ℕ) (l : Lists) (d : Dial) (out : List ℕ) where
   -- An advance that is refused wherever a model is shown leaves words, numbers and output.
-  stays-refused : (i : ℕ) → ((m : Plain) → DialShows l d m → Done (Advance target (length out / 4)) m (Refused i) l d)
-      → Advances target l d out (advance.Refused i) l d out
-  unfolding told_advance
-  stays-refused i f = record {
+  stays-refused : (r : Refusal) → ((m : Plain) → DialShows l d m → Done (Advance target (length out / 4)) m (Refused (number_of r)) l d)
+      → Advances target l d out (Err r) l d out
+  unfolding told_advance told
+  stays-refused r f = record {
     promise = record { size = refl; tail = refl; shown = f };
     room = refl;
     beyond = λ m s. refl;
   }
 
   -- A target above the last tick.
-  pub advance-beyond : 68719476735 < target → Advances target l d out (advance.Refused 5) l d out
+  pub advance-beyond : 68719476735 < target → Advances target l d out (Err refusal.Beyond) l d out
   unfolding step outcome causes first_of beyond last_tick refused joins
   advance-beyond k =
-      stays-refused 5 (λ m s. refused-done l d m s (Advance target (length out / 4)) 5 (rw (lt-ltb 68719476735 target k)))
+      stays-refused refusal.Beyond (λ m s. refused-done l d m s (Advance target (length out / 4)) 5 (rw (lt-ltb 68719476735 target k)))
 
   -- A target below the clock.
-  pub advance-behind : target ≤ 68719476735 → target < d.clock → Advances target l d out (advance.Refused 4) l d out
+  pub advance-behind : target ≤ 68719476735 → target < d.clock → Advances target l d out (Err refusal.Behind) l d out
   unfolding step outcome causes first_of beyond behind last_tick refused joins listed
   advance-behind most k =
-      stays-refused 4
+      stays-refused refusal.Behind
       (λ m s.
       refused-done l d m s (Advance target (length out / 4)) 4
       (rw (le-ltb 68719476735 target most, lt-ltb target m.clock (omega (arith, s.clock)))))
@@ -102,20 +110,20 @@ is_done more = false
 is_done broken = false
 
 -- The number fired, clock and moves are answered with done or more, as the turns ended.
-told-cases : (end : HowEnded) (t : Turn) (out : List ℕ) (o : Report) → ending_of end ≡ cond o.done done more
+told-cases : (end : Option HowEnded) (t : Turn) (out : List ℕ) (o : Report) → ending_of end ≡ cond o.done done more
     → records_in t.fired out ≡ o.fired → t.clock ≡ o.clock → t.moves ≡ o.moves
     → (told_advance (ended_with end t) out ≡ calls.Advanced o) × (written (ended_with end t) ≡ t.fired)
-unfolding told_advance answers.report ended_with written ending_of is_done has_ended
+unfolding told_advance told reported answers.report ended_with written ending_of is_done has_ended
 told-cases end t out o e f c v = go end o.done e
   where
-    go : (end : HowEnded) (b : Bool) → ending_of end ≡ cond b done more
+    go : (end : Option HowEnded) (b : Bool) → ending_of end ≡ cond b done more
         → (told_advance (ended_with end t) out ≡ calls.Advanced (record { fired = o.fired; clock = o.clock; moves = o.moves; done = b })) × (written (ended_with end t) ≡ t.fired)
-    go how.Done true e = (rw (f, c, v), refl)
-    go how.Done false e = clash refl (ap is_done e)
-    go how.More true e = clash refl (sym (ap is_done e))
-    go how.More false e = (rw (f, c, v), refl)
-    go how.Broken true e = clash refl (sym (ap has_ended e))
-    go how.Broken false e = clash refl (sym (ap has_ended e))
+    go (Some how.Done) true e = (rw (f, c, v), refl)
+    go (Some how.Done) false e = clash refl (ap is_done e)
+    go (Some how.More) true e = clash refl (sym (ap is_done e))
+    go (Some how.More) false e = (rw (f, c, v), refl)
+    go None true e = clash refl (sym (ap has_ended e))
+    go None false e = clash refl (sym (ap has_ended e))
 
 -- The numbers with which the turns begin: nothing is fired yet, and nothing is moved.
 abbrev pub start_of : Dial → Turn
@@ -140,8 +148,8 @@ module _ (w first last marks out : List ℕ) (d : Dial) (target : ℕ) where
 
   module _ (most : target ≤ 68719476735) (forward : d.clock ≤ target) (m : Plain) (s : DialShows (lists_of w first last marks d.due) d m) where
     -- What the model's advance comes to.
-    abbrev told : Outcome
-    told = outcome 64 6 (Advance target (length out / 4)) (listed m)
+    abbrev come : Outcome
+    come = outcome 64 6 (Advance target (length out / 4)) (listed m)
 
     -- The numbers of a model are in bounds.
     in_bounds : countable begun ≡ true
@@ -149,7 +157,7 @@ module _ (w first last marks out : List ℕ) (d : Dial) (target : ℕ) where
     in_bounds = rw (le-leb d.store.cells 4096 (omega (arith, s.cells, (facts m s.valid).limit)), le-leb 0 4294967295 (omega arith))
 
     -- The turns have done what the model's advance says.
-    turned-advanced : Advanced begun (advance_turns target begun) m told
+    turned-advanced : Advanced begun (advance_turns target begun) m come
     unfolding advance_turns last_tick room
     turned-advanced =
         let all : room begun - 0 ≡ length out / 4 = omega arith in
@@ -160,15 +168,15 @@ module _ (w first last marks out : List ℕ) (d : Dial) (target : ℕ) where
     module _ (w' first' last' marks' out' : List ℕ) (r : TurnsEnded)
         (e : ended_of w' first' last' marks' out' r ≡ advance_turns target begun) where
       -- The same, of what they left.
-      left-advanced : Advanced begun (ended_of w' first' last' marks' out' r) m told
-      left-advanced = subst (λ (x : Ended). Advanced begun x m told) (sym e) turned-advanced
+      left-advanced : Advanced begun (ended_of w' first' last' marks' out' r) m come
+      left-advanced = subst (λ (x : Ended). Advanced begun x m come) (sym e) turned-advanced
 
       -- The entries handed out.
       abbrev fired : List Entry
-      fired = take (length (report told).fired) (arranged m.entries)
+      fired = take (length (report come).fired) (arranged m.entries)
 
       -- The report tells them,
-      fired-shown : map shown fired ≡ (report told).fired
+      fired-shown : map shown fired ≡ (report come).fired
       unfolding listed last_tick
       fired-shown = fired-told target (length out / 4) (listed m) (omega (arith, s.clock)) most
 
@@ -184,13 +192,13 @@ module _ (w first last marks out : List ℕ) (d : Dial) (target : ℕ) where
           left-advanced.out ∙ ap (λ (k : ℕ). records fired ++ drop (k * 4) out) none
 
       -- The answer tells what the model's advance reports.
-      answered : (told_advance (ended_answer r) out' ≡ told.answer) × (written (ended_answer r) ≡ r.turn.fired)
+      answered : (told_advance (ended_answer r) out' ≡ come.answer) × (written (ended_answer r) ≡ r.turn.fired)
       unfolding ended_answer
       answered =
           let h = left-advanced in
-          let read : records_in r.turn.fired out' ≡ (report told).fired =
+          let read : records_in r.turn.fired out' ≡ (report come).fired =
           rw (fired-number, out-is) (records-read fired (drop (length fired * 4) out) ∙ fired-shown) in
-          let both = told-cases r.ending r.turn out' (report told) h.ending read h.clock (omega (arith, h.moves)) in
+          let both = told-cases r.ending r.turn out' (report come) h.ending read h.clock (omega (arith, h.moves)) in
           (both.0 ∙ sym h.answer, both.1)
 
       -- So the call is done: its answer is the model's, and the next model is shown.
@@ -206,7 +214,7 @@ module _ (w first last marks out : List ℕ) (d : Dial) (target : ℕ) where
           (drop_at (records fired) (drop (length fired * 4) out) (length fired * 4) (records-length fired))
 
 -- An advance to a target from the clock to the last tick: the turns were run, the output keeps its length, and their end is told.
-pub advance-promised : (w first last marks out w' first' last' marks' out' : List ℕ) (d : Dial) (target : ℕ) (r : TurnsEnded) (answer : AdvanceAnswer)
+pub advance-promised : (w first last marks out w' first' last' marks' out' : List ℕ) (d : Dial) (target : ℕ) (r : TurnsEnded) (answer : Result head_advanced.Advanced Refusal)
     → target ≤ 68719476735 → d.clock ≤ target
     → ended_of w' first' last' marks' out' r ≡ advance_turns target (state_of w first last marks out (start_of d))
     → length out' ≡ length out → answer ≡ ended_answer r

@@ -1,5 +1,4 @@
 -- Laws of the wheel.
-pub mod SetUpCases
 pub mod CallsShown
 pub mod Promised
 pub mod WakeShown

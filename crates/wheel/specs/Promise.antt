@@ -1,16 +1,18 @@
 -- What a call of the wheel promises, in place, quick or checked.
 -- Assumes nothing.
-use Rattle.std.specs.Prelude.{ℕ, ◌*◌, ◌/◌, List, ◌≡◌, length, drop}
+use Rattle.std.specs.Prelude.{ℕ, ◌*◌, ◌/◌, List, ◌≡◌, length, drop, Result, Ok, Err}
+use Rattle.cells.specs.declared.refusal.Refusal.{Refusal}
+use Rattle.cells.specs.declared.refusal.Refusal.TheVariants as refusal
 use Rattle.meaning.specs.Calls.{Call, Answer, Refused, Advance}
 use Rattle.meaning.specs.Plain.{Plain}
 use Rattle.slots.specs.Rings.{Lists}
 use Rattle.dial.specs.Joined.{step}
 use Rattle.dial.specs.declared.state.Dial.{Dial}
 pub use Rattle.wheel_rules.specs.Shown.{DialShows}
+use Rattle.wheel_rules.specs.Rules.{WheelSound}
 use Rattle.wheel.specs.Answers.{told_advance, written}
 use Rattle.wheel.specs.declared.head.Head.{Head}
-use Rattle.wheel.specs.declared.head.AdvanceAnswer.{AdvanceAnswer}
-use Rattle.wheel.specs.declared.head.AdvanceAnswer.TheVariants as advance
+use Rattle.wheel.specs.declared.head.Advanced.{Advanced}
 
 -- The lists of a head.
 unfoldable pub head_lists : Head → List ℕ → Lists
@@ -28,7 +30,8 @@ pub record Promise (call : Call) (l : Lists) (d : Dial) (a : Answer) (l' : Lists
   pub shown : (m : Plain) → DialShows l d m → Done call m a l' d'
 
 -- An advance besides: the output keeps its length, and "words beyond the last record keep their contents".
-pub record Advances (target : ℕ) (l : Lists) (d : Dial) (out : List ℕ) (a : AdvanceAnswer) (l' : Lists) (d' : Dial) (out' : List ℕ) : Type 0 where
+pub record Advances (target : ℕ) (l : Lists) (d : Dial) (out : List ℕ) (a : Result Advanced Refusal) (l' : Lists) (d' : Dial)
+    (out' : List ℕ) : Type 0 where
   pub promise : Promise (Advance target (length out / 4)) l d (told_advance a out') l' d'
   pub room : length out' ≡ length out
   pub beyond : (m : Plain) → DialShows l d m → drop (written a * 4) out' ≡ drop (written a * 4) out
@@ -37,12 +40,18 @@ pub record Advances (target : ℕ) (l : Lists) (d : Dial) (out : List ℕ) (a : 
 abbrev pub Broken : Lists → Dial → Type 0
 Broken l d = (m : Plain) → DialShows l d m → ⊥
 
+-- An audit before a call passes exactly if the rules hold; its refusal is 9.
+abbrev pub Audited : Head → List ℕ → Result Unit Refusal → Type 0
+Audited h w (Ok u) = WheelSound (head_lists h w) h.dial
+Audited h w (Err r) = (r ≡ refusal.Unsound) × (WheelSound (head_lists h w) h.dial → ⊥)
+
 -- "checked calls: head and memory don't pass the audit" gives 9, and "hands back the head unchanged and every lent word unchanged".
 pub record Checked (call : Call) (h : Head) (w : List ℕ) (a : Answer) (h' : Head) (w' : List ℕ) : Type 0 where
   pub promise : Promise call (head_lists h w) h.dial a (head_lists h' w') h'.dial
   pub broken : Broken (head_lists h w) h.dial → (a ≡ Refused 9) × (h' ≡ h) × (w' ≡ w)
 
 -- "output included"
-pub record CheckedAdvance (target : ℕ) (h : Head) (w out : List ℕ) (a : AdvanceAnswer) (h' : Head) (w' out' : List ℕ) : Type 0 where
+pub record CheckedAdvance (target : ℕ) (h : Head) (w out : List ℕ) (a : Result Advanced Refusal) (h' : Head)
+    (w' out' : List ℕ) : Type 0 where
   pub advances : Advances target (head_lists h w) h.dial out a (head_lists h' w') h'.dial out'
-  pub broken : Broken (head_lists h w) h.dial → (a ≡ advance.Refused 9) × (h' ≡ h) × (w' ≡ w) × (out' ≡ out)
+  pub broken : Broken (head_lists h w) h.dial → (a ≡ Err refusal.Unsound) × (h' ≡ h) × (w' ≡ w) × (out' ≡ out)

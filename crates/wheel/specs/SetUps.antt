@@ -1,13 +1,13 @@
 -- What the wheel's set-up answers, and the head and the words afterwards.
 -- Assumes nothing.
-use Rattle.std.specs.Prelude.{ℕ, ◌/◌, List, [], ◌∷◌, length, replicate}
+use Rattle.std.specs.Prelude.{ℕ, ◌/◌, List, [], ◌∷◌, length, replicate, Result, Ok, Err}
 use Rattle.cells.specs.Stack.{no_cell}
 use Rattle.cells.specs.Store.{fresh_words}
 use Rattle.cells.specs.declared.store.Store.{Store}
+use Rattle.cells.specs.Causes.{refusal_of}
+use Rattle.cells.specs.declared.refusal.Refusal.{Refusal}
 use Rattle.meaning.specs.Refusals.{Cause, first_of, bad_size, beyond}
 use Rattle.wheel.specs.declared.head.Head.{Head}
-use Rattle.wheel.specs.declared.head.SetUpAnswer.{SetUpAnswer}
-use Rattle.wheel.specs.declared.head.SetUpAnswer.TheVariants as set_up
 
 -- "Wheel set-up: 1, 5."
 unfoldable pub set_up_causes : List ℕ → ℕ → List Cause
@@ -27,15 +27,13 @@ empty_head t s =
 abbrev pub fresh_store : List ℕ → Store
 fresh_store w = record { cells = length w / 8; free = 0; counter = 1 }
 
--- The head that is handed out where set-up is refused: it has no cells, and no audit passes it.
-abbrev pub no_store : Store
-no_store = record { cells = 0; free = no_cell; counter = 0 }
+-- The head of a set-up that is accepted.
+abbrev pub set_up_head : List ℕ → ℕ → Head
+set_up_head w t = empty_head t (fresh_store w)
 
-unfoldable pub set_up_answer : List ℕ → ℕ → SetUpAnswer
-set_up_answer w t = first_of (set_up_causes w t) (λ i. set_up.Refused i) set_up.Ready
-
-unfoldable pub set_up_head : List ℕ → ℕ → Head
-set_up_head w t = first_of (set_up_causes w t) (λ i. empty_head 0 no_store) (empty_head t (fresh_store w))
+-- "The first that applies, in the order listed here, is given."
+unfoldable pub set_up_answer : List ℕ → ℕ → Result Head Refusal
+set_up_answer w t = first_of (set_up_causes w t) (λ i. Err (refusal_of i)) (Ok (set_up_head w t))
 
 -- "it rewrites every whole cell"; "A refusal hands back .. every lent word unchanged"
 unfoldable pub set_up_words : List ℕ → ℕ → List ℕ

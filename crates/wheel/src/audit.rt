@@ -1,4 +1,4 @@
-// The wheel's audit of a head: the head is taken apart, and its arrays lent to the audit of the rules.
+// The wheel's audit of a head: its arrays are lent to the audit of the rules.
 
 ghost use Rattle.std.specs.Prelude.{true, ◌↔◌, ◌≡◌};
 ghost use Rattle.wheel.specs.Promise.{head_lists};
@@ -8,11 +8,9 @@ use crate::head::Head;
 use wheel_rules::audit::lent_sound;
 
 // Whether head and memory keep to the rules.
-pub fn audit(w: &[u64], h: Head) -> bool
-    ensures { (result ≡ true) ↔ WheelSound (head_lists h w.now) h.dial }
+#[tactic(auto, unfolding(crate::specs::Promise::head_lists))]
+pub fn audit(w: &[u64], h: &Head) -> bool
+    ensures { (result ≡ true) ↔ WheelSound (head_lists h.now w.now) h.now.dial }
 {
-    let first = h.first;
-    let last = h.last;
-    let marks = h.marks;
-    lent_sound(w, &first, &last, &marks, h.dial)
+    lent_sound(w, &h.first, &h.last, &h.marks, h.dial)
 }

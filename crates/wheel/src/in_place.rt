@@ -1,259 +1,169 @@
-// The calls themselves, over lent words and arrays and the head's numbers by value: nothing here copies an array.
+// The calls themselves, over lent words and arrays and the head's numbers: nothing here copies an array.
 // Memory that was never audited may hold anything; an advance whose turns run out there is refused with 9.
 
 ghost use Rattle.std.specs.Prelude.{ℕ, List, ◌≡◌};
 ghost use Rattle.meaning.specs.Calls.{Arm, Move, Cancel, NextWake};
-ghost use Rattle.dial.specs.Lent.{lists_of};
-ghost use Rattle.wheel.specs.Answers.{told_arm, told_move, told_cancel, told_wake};
+ghost use Rattle.slots.specs.Held.{same_slices};
+ghost use Rattle.dial.specs.Lent.{lists_of, lists_in};
+ghost use Rattle.wheel.specs.Answers.{told_arm, told_move, told_cancel, wakes_at};
 ghost use Rattle.wheel.specs.Promise.{Promise, Advances};
-ghost use Rattle.wheel.specs.Refiled.{refiled_lists, ended_answer};
+ghost use Rattle.wheel.specs.Refiled.{timely, refiled_lists, ended_answer};
 
-use crate::head::{
-    AdvanceAnswer, AdvanceTurn, ArmAnswer, ArmTurn, CancelAnswer, CancelTurn, Dial, MoveAnswer,
-    MoveTurn, WakeAnswer,
-};
-use cells::store::{ClaimAnswer, DrawAnswer, claim, draw, names, release};
+use crate::head::{Advanced, Dial};
+use cells::refusal::Refusal;
+use cells::store::Handle;
 use cells::words::{get, put};
 use dial::lists::{join_at, leave_at, list_of};
 use dial::state::{HowEnded, Turn, TurnsEnded};
 use dial::turns::advance_turns;
 use places::wake_tick;
-use slots::ring::Ends;
-use slots::slots::first_marked;
+use slots::slots::{Lists, first_marked};
+
+// Whether a timer may get this deadline: refused with 5 above the last tick, 3 at or below the clock.
+#[tactic(auto, unfolding(crate::specs::Refiled::timely, places::specs::Ticks::last_tick))]
+fn in_time(clock: u64, deadline: u64) -> Result<(), Refusal>
+    ensures { result ≡ timely clock deadline }
+{
+    if deadline > 68719476735 {
+        return Err(Refusal::Beyond);
+    }
+    if deadline <= clock {
+        return Err(Refusal::NotAfter);
+    }
+    Ok(())
+}
 
 // Arms a timer: refused with 5 above the last tick, 3 at or below the clock, 6 where no cell is free, 8 once the counter is spent.
-pub fn arm(
-    w: &mut [u64],
-    first: &mut [u16],
-    last: &mut [u16],
-    marks: &mut [u64],
-    d: Dial,
-    deadline: u64,
-    load: u64,
-) -> ArmTurn
-    ensures { Promise (Arm deadline load) (lists_of w.old first.old last.old marks.old d.due) d
-        (told_arm result.answer)
-        (lists_of w.new first.new last.new marks.new result.dial.due) result.dial }
+pub fn arm(lists: &mut Lists, d: &mut Dial, deadline: u64, load: u64) -> Result<Handle, Refusal>
+    ensures slices { same_slices lists.old lists.new }
+    ensures promise { Promise (Arm deadline load) (lists_in lists.old d.old.due) d.old (told_arm result)
+        (lists_in lists.new d.new.due) d.new }
 {
-    if deadline > 68719476735 {
-        return ArmTurn {
-            answer: ArmAnswer::Refused(5),
-            dial: d,
-        };
-    }
-    if deadline <= d.clock {
-        return ArmTurn {
-            answer: ArmAnswer::Refused(3),
-            dial: d,
-        };
-    }
-    let claimed = claim(w, d.store, deadline, load);
-    let answer = claimed.answer;
-    let store = claimed.store;
-    match answer {
-        ClaimAnswer::Refused(i) => ArmTurn {
-            answer: ArmAnswer::Refused(i),
-            dial: d,
-        },
-        ClaimAnswer::Taken(c, k) => {
-            let due = join_at(w, first, last, marks, d.due, list_of(d.clock, deadline), c);
-            ArmTurn {
-                answer: ArmAnswer::Armed(c, k),
-                dial: Dial {
-                    clock: d.clock,
-                    due,
-                    store,
-                },
-            }
-        }
-    }
+    in_time(d.clock, deadline)?;
+    let at = d.store.claim(lists.words, deadline, load)?;
+    d.due = join_at(lists, d.due, list_of(d.clock, deadline), at.cell);
+    Ok(at)
 }
 
-// Cancels the timer that the handle (c, k) names, refused with 7 where it names none.
-pub fn cancel(
-    w: &mut [u64],
-    first: &mut [u16],
-    last: &mut [u16],
-    marks: &mut [u64],
-    d: Dial,
-    c: u64,
-    k: u64,
-) -> CancelTurn
-    ensures { Promise (Cancel c k) (lists_of w.old first.old last.old marks.old d.due) d
-        (told_cancel result.answer)
-        (lists_of w.new first.new last.new marks.new result.dial.due) result.dial }
+// Cancels the timer that the handle names, and hands its load back: refused with 7 where it names none.
+pub fn cancel(lists: &mut Lists, d: &mut Dial, at: Handle) -> Result<u64, Refusal>
+    ensures slices { same_slices lists.old lists.new }
+    ensures promise { Promise (Cancel at.cell at.ticket) (lists_in lists.old d.old.due) d.old (told_cancel result)
+        (lists_in lists.new d.new.due) d.new }
 {
-    if !names(w, d.store, c, k) {
-        return CancelTurn {
-            answer: CancelAnswer::Refused(7),
-            dial: d,
-        };
+    let words = &mut *lists.words;
+    if !d.store.names(words, at) {
+        return Err(Refusal::Stale);
     }
-    let load = get(w, c, 3);
-    let i = list_of(d.clock, get(w, c, 2));
-    let due = leave_at(w, first, last, marks, d.due, i, c);
-    let store = release(w, d.store, c);
-    CancelTurn {
-        answer: CancelAnswer::Cancelled(load),
-        dial: Dial {
-            clock: d.clock,
-            due,
-            store,
-        },
-    }
+    let load = get(words, at.cell, 3);
+    let i = list_of(d.clock, get(words, at.cell, 2));
+    d.due = leave_at(lists, d.due, i, at.cell);
+    d.store.release(lists.words, at.cell);
+    Ok(load)
 }
 
-// Cell c leaves its list for that of another deadline, with a fresh order number; says the ends of the due list then.
-fn refile(
-    w: &mut [u64],
-    first: &mut [u16],
-    last: &mut [u16],
-    marks: &mut [u64],
-    d: Dial,
-    c: u64,
-    order: u64,
-    deadline: u64,
-) -> Ends
-    ensures { lists_of w.new first.new last.new marks.new result
-        ≡ refiled_lists (lists_of w.old first.old last.old marks.old d.due) d.clock c order deadline }
+// Cell c leaves its list for that of another deadline, with a fresh order number.
+#[tactic(auto, unfolding(crate::specs::Refiled::refiled_lists, dial::specs::Turns::with_words))]
+fn refile(lists: &mut Lists, d: &mut Dial, c: u64, order: u64, deadline: u64)
+    ensures slices { same_slices lists.old lists.new }
+    ensures lists { lists_in lists.new d.new.due
+        ≡ refiled_lists (lists_in lists.old d.old.due) d.old.clock c order deadline }
+    ensures clock { d.new.clock ≡ d.old.clock }
+    ensures store { d.new.store ≡ d.old.store }
 {
-    let i = list_of(d.clock, get(w, c, 2));
-    let left = leave_at(w, first, last, marks, d.due, i, c);
-    put(w, c, 1, order);
-    put(w, c, 2, deadline);
-    join_at(w, first, last, marks, left, list_of(d.clock, deadline), c)
+    let words = &mut *lists.words;
+    let i = list_of(d.clock, get(words, c, 2));
+    let left = leave_at(lists, d.due, i, c);
+    put(lists.words, c, 1, order);
+    put(lists.words, c, 2, deadline);
+    d.due = join_at(lists, left, list_of(d.clock, deadline), c);
 }
 
-// Moves the timer that the handle (c, k) names: refused with 7 where it names none, 5 above the last tick, 3 at or below the clock, 8 once the counter is spent.
-pub fn move_to(
-    w: &mut [u64],
-    first: &mut [u16],
-    last: &mut [u16],
-    marks: &mut [u64],
-    d: Dial,
-    c: u64,
-    k: u64,
-    deadline: u64,
-) -> MoveTurn
-    ensures { Promise (Move c k deadline) (lists_of w.old first.old last.old marks.old d.due) d
-        (told_move result.answer)
-        (lists_of w.new first.new last.new marks.new result.dial.due) result.dial }
+// Moves the timer that the handle names: refused with 7 where it names none, 5 above the last tick, 3 at or below the clock,
+// 8 once the counter is spent.
+pub fn move_to(lists: &mut Lists, d: &mut Dial, at: Handle, deadline: u64) -> Result<(), Refusal>
+    ensures slices { same_slices lists.old lists.new }
+    ensures promise { Promise (Move at.cell at.ticket deadline) (lists_in lists.old d.old.due) d.old (told_move result)
+        (lists_in lists.new d.new.due) d.new }
 {
-    if !names(w, d.store, c, k) {
-        return MoveTurn {
-            answer: MoveAnswer::Refused(7),
-            dial: d,
-        };
+    let words = &mut *lists.words;
+    if !d.store.names(words, at) {
+        return Err(Refusal::Stale);
     }
-    if deadline > 68719476735 {
-        return MoveTurn {
-            answer: MoveAnswer::Refused(5),
-            dial: d,
-        };
-    }
-    if deadline <= d.clock {
-        return MoveTurn {
-            answer: MoveAnswer::Refused(3),
-            dial: d,
-        };
-    }
-    let drawn = draw(d.store);
-    let answer = drawn.answer;
-    let store = drawn.store;
-    match answer {
-        DrawAnswer::Refused(i) => MoveTurn {
-            answer: MoveAnswer::Refused(i),
-            dial: d,
-        },
-        DrawAnswer::Number(order) => {
-            let due = refile(w, first, last, marks, d, c, order, deadline);
-            MoveTurn {
-                answer: MoveAnswer::Moved,
-                dial: Dial {
-                    clock: d.clock,
-                    due,
-                    store,
-                },
-            }
-        }
-    }
+    in_time(d.clock, deadline)?;
+    let order = d.store.draw()?;
+    refile(lists, d, at.cell, order, deadline);
+    Ok(())
 }
 
 // When something is to be done next: the clock where something is due, else the first wake tick, if there is one.
-pub fn next_wake(marks: &[u64], d: Dial) -> WakeAnswer
-    ensures { (w first last : List ℕ) → Promise NextWake (lists_of w first last marks.now d.due) d (told_wake result) (lists_of w first last marks.now d.due) d }
+pub fn next_wake(marks: &[u64], d: &Dial) -> Option<u64>
+    ensures { (w first last : List ℕ) → Promise NextWake (lists_of w first last marks.now d.now.due) d.now (wakes_at result)
+        (lists_of w first last marks.now d.now.due) d.now }
 {
-    let due = d.due;
-    if due.first != 4096 {
-        return WakeAnswer::At(d.clock);
+    if d.due.first != 4096 {
+        return Some(d.clock);
     }
-    let i = first_marked(marks);
-    if i == 384 {
-        return WakeAnswer::Quiet;
-    }
-    WakeAnswer::At(wake_tick(d.clock, i / 64, i % 64))
+    let i = first_marked(marks)?;
+    Some(wake_tick(d.clock, i / 64, i % 64))
 }
 
 // What an advance answers at its end.
-fn told(ended: TurnsEnded) -> AdvanceAnswer
+#[tactic(auto, unfolding(crate::specs::Refiled::ended_answer, crate::specs::Refiled::ended_with))]
+fn told(ended: TurnsEnded) -> Result<Advanced, Refusal>
     ensures { result ≡ ended_answer ended }
 {
-    let t = ended.turn;
-    let ending = ended.ending;
-    match ending {
-        HowEnded::Done => AdvanceAnswer::Done(t.fired, t.clock, t.moves),
-        HowEnded::More => AdvanceAnswer::More(t.fired, t.clock, t.moves),
-        HowEnded::Broken => AdvanceAnswer::Refused(9),
+    let Turn {
+        clock,
+        fired,
+        moves,
+        ..
+    } = ended.turn;
+    match ended.ending {
+        Some(HowEnded::Done) => Ok(Advanced::Done {
+            fired,
+            clock,
+            moves,
+        }),
+        Some(HowEnded::More) => Ok(Advanced::More {
+            fired,
+            clock,
+            moves,
+        }),
+        None => Err(Refusal::Unsound),
     }
 }
 
 // Advances the clock to the target, or to where the output is full and more is due: refused with 5 above the last tick, 4 below the clock.
 pub fn advance(
-    w: &mut [u64],
-    first: &mut [u16],
-    last: &mut [u16],
-    marks: &mut [u64],
-    d: Dial,
+    lists: &mut Lists,
+    d: &mut Dial,
     target: u64,
     out: &mut [u64],
-) -> AdvanceTurn
-    ensures { Advances target (lists_of w.old first.old last.old marks.old d.due) d
-        out.old
-        result.answer
-        (lists_of w.new first.new last.new marks.new result.dial.due) result.dial
-        out.new }
+) -> Result<Advanced, Refusal>
+    ensures slices { same_slices lists.old lists.new }
+    ensures promise { Advances target (lists_in lists.old d.old.due) d.old out.old result
+        (lists_in lists.new d.new.due) d.new out.new }
 {
     if target > 68719476735 {
-        return AdvanceTurn {
-            answer: AdvanceAnswer::Refused(5),
-            dial: d,
-        };
+        return Err(Refusal::Beyond);
     }
     if target < d.clock {
-        return AdvanceTurn {
-            answer: AdvanceAnswer::Refused(4),
-            dial: d,
-        };
+        return Err(Refusal::Behind);
     }
-    let due = d.due;
-    let store = d.store;
     let start = Turn {
         clock: d.clock,
-        due,
-        store,
+        due: d.due,
+        store: d.store,
         fired: 0,
         moves: 0,
     };
-    let ended = advance_turns(w, first, last, marks, out, start, target);
+    let ended = advance_turns(lists, out, start, target);
     let turn = ended.turn;
-    let left = turn.due;
-    let kept = turn.store;
-    AdvanceTurn {
-        answer: told(ended),
-        dial: Dial {
-            clock: turn.clock,
-            due: left,
-            store: kept,
-        },
-    }
+    *d = Dial {
+        clock: turn.clock,
+        due: turn.due,
+        store: turn.store,
+    };
+    told(ended)
 }

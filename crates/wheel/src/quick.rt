@@ -1,103 +1,80 @@
 // The quick calls: they audit nothing. On audited state they answer as the checked calls do; on any other they stay in bounds and end.
-// The head is taken apart, the call made in place, and the head put together again.
+// Each lends the head's parts to the call in place.
+#![tactic(auto, unfolding(crate::specs::Promise::head_lists))]
 
 ghost use Rattle.std.specs.Prelude.{ℕ, List, ◌≡◌};
 ghost use Rattle.meaning.specs.Calls.{Arm, Move, Cancel, NextWake};
-ghost use Rattle.wheel.specs.Answers.{told_arm, told_move, told_cancel, told_wake};
+ghost use Rattle.wheel.specs.Answers.{told_arm, told_move, told_cancel, wakes_at};
 ghost use Rattle.wheel.specs.Promise.{head_lists, Promise, Advances};
 
-use crate::head::{AdvanceDone, ArmDone, CancelDone, Head, MoveDone, WakeAnswer};
+use crate::head::{Advanced, Head};
 use crate::in_place;
+use cells::refusal::Refusal;
+use cells::store::Handle;
+use slots::slots::Lists;
 
 // Arms a timer.
-pub fn arm(w: &mut [u64], h: Head, deadline: u64, load: u64) -> ArmDone
-    ensures { Promise (Arm deadline load) (head_lists h w.old) h.dial (told_arm result.answer) (head_lists result.head w.new) result.head.dial }
+pub fn arm(w: &mut [u64], h: &mut Head, deadline: u64, load: u64) -> Result<Handle, Refusal>
+    ensures { Promise (Arm deadline load) (head_lists h.old w.old) h.old.dial (told_arm result) (head_lists h.new w.new) h.new.dial }
 {
-    let mut first = h.first;
-    let mut last = h.last;
-    let mut marks = h.marks;
-    let turn = in_place::arm(w, &mut first, &mut last, &mut marks, h.dial, deadline, load);
-    let answer = turn.answer;
-    let dial = turn.dial;
-    ArmDone {
-        answer,
-        head: Head {
-            first,
-            last,
-            marks,
-            dial,
-        },
-    }
+    let mut lists = Lists {
+        words: w,
+        first: &mut h.first[..],
+        last: &mut h.last[..],
+        marks: &mut h.marks[..],
+    };
+    in_place::arm(&mut lists, &mut h.dial, deadline, load)
 }
 
-// Moves the timer that the handle (c, k) names.
-pub fn move_to(w: &mut [u64], h: Head, c: u64, k: u64, deadline: u64) -> MoveDone
-    ensures { Promise (Move c k deadline) (head_lists h w.old) h.dial (told_move result.answer) (head_lists result.head w.new) result.head.dial }
+// Moves the timer that the handle names.
+pub fn move_to(w: &mut [u64], h: &mut Head, at: Handle, deadline: u64) -> Result<(), Refusal>
+    ensures { Promise (Move at.cell at.ticket deadline) (head_lists h.old w.old) h.old.dial (told_move result)
+        (head_lists h.new w.new) h.new.dial }
 {
-    let mut first = h.first;
-    let mut last = h.last;
-    let mut marks = h.marks;
-    let turn = in_place::move_to(w, &mut first, &mut last, &mut marks, h.dial, c, k, deadline);
-    let answer = turn.answer;
-    let dial = turn.dial;
-    MoveDone {
-        answer,
-        head: Head {
-            first,
-            last,
-            marks,
-            dial,
-        },
-    }
+    let mut lists = Lists {
+        words: w,
+        first: &mut h.first[..],
+        last: &mut h.last[..],
+        marks: &mut h.marks[..],
+    };
+    in_place::move_to(&mut lists, &mut h.dial, at, deadline)
 }
 
-// Cancels the timer that the handle (c, k) names.
-pub fn cancel(w: &mut [u64], h: Head, c: u64, k: u64) -> CancelDone
-    ensures { Promise (Cancel c k) (head_lists h w.old) h.dial (told_cancel result.answer) (head_lists result.head w.new) result.head.dial }
+// Cancels the timer that the handle names.
+pub fn cancel(w: &mut [u64], h: &mut Head, at: Handle) -> Result<u64, Refusal>
+    ensures { Promise (Cancel at.cell at.ticket) (head_lists h.old w.old) h.old.dial (told_cancel result)
+        (head_lists h.new w.new) h.new.dial }
 {
-    let mut first = h.first;
-    let mut last = h.last;
-    let mut marks = h.marks;
-    let turn = in_place::cancel(w, &mut first, &mut last, &mut marks, h.dial, c, k);
-    let answer = turn.answer;
-    let dial = turn.dial;
-    CancelDone {
-        answer,
-        head: Head {
-            first,
-            last,
-            marks,
-            dial,
-        },
-    }
+    let mut lists = Lists {
+        words: w,
+        first: &mut h.first[..],
+        last: &mut h.last[..],
+        marks: &mut h.marks[..],
+    };
+    in_place::cancel(&mut lists, &mut h.dial, at)
 }
 
 // Says when something is to be done next.
-pub fn next_wake(h: Head) -> WakeAnswer
-    ensures { (w : List ℕ) → Promise NextWake (head_lists h w) h.dial (told_wake result) (head_lists h w) h.dial }
+pub fn next_wake(h: &Head) -> Option<u64>
+    ensures { (w : List ℕ) → Promise NextWake (head_lists h.now w) h.now.dial (wakes_at result) (head_lists h.now w) h.now.dial }
 {
-    let marks = h.marks;
-    in_place::next_wake(&marks, h.dial)
+    in_place::next_wake(&h.marks, &h.dial)
 }
 
 // Advances the clock, and writes what fires into the lent output.
-pub fn advance(w: &mut [u64], h: Head, target: u64, out: &mut [u64]) -> AdvanceDone
-    ensures { Advances target (head_lists h w.old) h.dial out.old result.answer (head_lists result.head w.new) result.head.dial
-        out.new }
+pub fn advance(
+    w: &mut [u64],
+    h: &mut Head,
+    target: u64,
+    out: &mut [u64],
+) -> Result<Advanced, Refusal>
+    ensures { Advances target (head_lists h.old w.old) h.old.dial out.old result (head_lists h.new w.new) h.new.dial out.new }
 {
-    let mut first = h.first;
-    let mut last = h.last;
-    let mut marks = h.marks;
-    let turn = in_place::advance(w, &mut first, &mut last, &mut marks, h.dial, target, out);
-    let answer = turn.answer;
-    let dial = turn.dial;
-    AdvanceDone {
-        answer,
-        head: Head {
-            first,
-            last,
-            marks,
-            dial,
-        },
-    }
+    let mut lists = Lists {
+        words: w,
+        first: &mut h.first[..],
+        last: &mut h.last[..],
+        marks: &mut h.marks[..],
+    };
+    in_place::advance(&mut lists, &mut h.dial, target, out)
 }

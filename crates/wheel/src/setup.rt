@@ -1,13 +1,15 @@
 // Set-up of a wheel in lent words: size and start are tested before anything is written.
 
 ghost use Rattle.std.specs.Prelude.{◌≡◌};
-ghost use Rattle.wheel.specs.SetUps.{empty_head, no_store, set_up_answer, set_up_head, set_up_words};
+ghost use Rattle.wheel.specs.SetUps.{empty_head, set_up_answer, set_up_words};
 
-use crate::head::{Dial, Head, SetUpAnswer, SetUpDone};
-use cells::store::{SetUp, Store, set_up as set_up_cells};
+use crate::head::{Dial, Head};
+use cells::refusal::Refusal;
+use cells::store::{Store, set_up as set_up_cells};
 use slots::ring::Ends;
 
 // A head with empty lists.
+#[tactic(auto, unfolding(crate::specs::SetUps::empty_head))]
 fn empty_head(clock: u64, store: Store) -> Head
     ensures { result ≡ empty_head clock store }
 {
@@ -26,54 +28,20 @@ fn empty_head(clock: u64, store: Store) -> Head
     }
 }
 
-// What a refused set-up hands out.
-fn no_head() -> Head
-    ensures { result ≡ empty_head 0 no_store }
-{
-    empty_head(
-        0,
-        Store {
-            cells: 0,
-            free: 4096,
-            counter: 0,
-        },
-    )
-}
-
-// Sets a wheel up in the lent words, with the clock at start: refused with 1 unless there are 1 to 4096 cells, then with 5 for a start above the last tick.
-pub fn set_up(w: &mut [u64], start: u64) -> SetUpDone
-    ensures answer { result.answer ≡ set_up_answer w.old start }
-    ensures head { result.head ≡ set_up_head w.old start }
+// Sets a wheel up in the lent words, with the clock at start: refused with 1 unless there are 1 to 4096 cells, then with 5 for a start
+// above the last tick.
+#[tactic(auto, unfolding(crate::specs::SetUps::set_up_answer, crate::specs::SetUps::set_up_words, crate::specs::SetUps::set_up_causes, meaning::specs::Refusals::first_of, meaning::specs::Refusals::bad_size, meaning::specs::Refusals::beyond, cells::specs::Store::wrong_size, cells::specs::Store::set_up_answer, cells::specs::Store::set_up_words, places::specs::Ticks::last_tick, cells::specs::Causes::refusal_of))]
+pub fn set_up(w: &mut [u64], start: u64) -> Result<Head, Refusal>
+    ensures answer { result ≡ set_up_answer w.old start }
     ensures words { w.new ≡ set_up_words w.old start }
 {
     let n = w.len() / 8;
-    if n == 0 {
-        return SetUpDone {
-            answer: SetUpAnswer::Refused(1),
-            head: no_head(),
-        };
-    }
-    if n > 4096 {
-        return SetUpDone {
-            answer: SetUpAnswer::Refused(1),
-            head: no_head(),
-        };
+    if n == 0 || n > 4096 {
+        return Err(Refusal::BadSize);
     }
     if start > 68719476735 {
-        return SetUpDone {
-            answer: SetUpAnswer::Refused(5),
-            head: no_head(),
-        };
+        return Err(Refusal::Beyond);
     }
-    let made = set_up_cells(w);
-    match made {
-        SetUp::Refused(i) => SetUpDone {
-            answer: SetUpAnswer::Refused(i),
-            head: no_head(),
-        },
-        SetUp::Ready(store) => SetUpDone {
-            answer: SetUpAnswer::Ready,
-            head: empty_head(start, store),
-        },
-    }
+    let store = set_up_cells(w)?;
+    Ok(empty_head(start, store))
 }

@@ -10,10 +10,10 @@ use lib.ListN.{length}
 use borrow.Author.Tests.{leb-true, le-leb, eqb-true, eq-eqb}
 use Rattle.cells.specs.Stack.{frees}
 use Rattle.cells.specs.Rules.{Sound}
-use Rattle.cells.specs.declared.store.Store.{Store}
 use Rattle.audits.specs.AuditTests.{all_below, shared_test}
 use Rattle.audits.specs.Verdicts.{Judged}
-use Rattle.audits.specs.declared.audit.Verdict.{Verdict}
+use Rattle.std.specs.Option.{is_some}
+use Rattle.std.specs.declared.option.Option.{Option}
 use Rattle.cells.proofs.Cases.{test, clash, and-true}
 use Rattle.audits.proofs.Audits.{shared-decides}
 use Rattle.places.specs.Ticks.{last_tick}
@@ -158,23 +158,18 @@ module _ (l : Lists) (d : Dial) where
     unfolding audit_test
     audit-dial x = rw (sym ea ∙ x)
 
-    module _ (ta : a ≡ true) (v : Verdict) (ev : Judged l.words d.store used_mask free_mask v) where
+    module _ (ta : a ≡ true) (v : Option ℕ) (ev : Judged l.words d.store used_mask free_mask v) where
       -- The shared audit's answer is its test.
-      answer : v.sound ≡ shared
+      answer : is_some v ≡ shared
       answer =
-          test v.sound
+          test (is_some v)
           (λ x. x ∙ sym ((shared-decides l.words d.store used_mask free_mask).1 (ev.exact.0 x)))
           (λ x.
           test shared
           (λ y. clash (ev.exact.1 ((shared-decides l.words d.store used_mask free_mask).0 y)) x)
           (λ y. x ∙ sym y))
 
-      -- What every engine shares fails.
-      pub audit-shared : v.sound ≡ false → false ≡ audit_test l d
-      unfolding audit_test
-      audit-shared x = rw (sym ea ∙ ta, sym answer ∙ x)
-
-      module _ (tv : v.sound ≡ true) (e : Bool) (ee : e ≡ arrays) where
+      module _ (tv : is_some v ≡ true) (e : Bool) (ee : e ≡ arrays) where
         -- The arrays fail.
         pub audit-arrays : e ≡ false → false ≡ audit_test l d
         unfolding audit_test
@@ -190,11 +185,6 @@ module _ (l : Lists) (d : Dial) where
           pub audit-lists : m ≡ true → (z : Bool) → z ≡ lists → z ≡ audit_test l d
           unfolding audit_test
           audit-lists tm z ez = rw (sym ea ∙ ta, sym answer ∙ tv, sym ee ∙ te, sym em ∙ tm) ez
-
--- Where the shared audit says yes there are at most 4,096 cells, and those free are counted.
-pub audit-counted : (w : List ℕ) (s : Store) (used free : ℕ) (v : Verdict) → Judged w s used free v → v.sound ≡ true
-    → (s.cells ≤ 4096) × (v.free ≡ frees w s.cells)
-audit-counted w s used free v h e = ((h.exact.0 e).most, rw e at h.count)
 
 -- The answer of the audit.
 pub audit-answers : (l : Lists) (d : Dial) (r : Bool) → r ≡ audit_test l d → (r ≡ true) ↔ WheelSound l d

@@ -85,10 +85,6 @@ module _ (t i : ℕ) where
         (λ e l k. record { late = omega arith; last = omega (arith, known); place = number-due t e (omega arith) ∙ sym q })
         (λ e r. let here : t ≡ e = number-only t e (r.place ∙ q) in (omega arith, omega arith))
 
-    -- Any other list is a slot's.
-    pub slot-list : (i ≡ 384 → ⊥) → (t ≤ 68719476735) × (i < 384)
-    slot-list q = (known.0, omega (arith, known))
-
   module _ (tick : t ≤ 68719476735) (below : i < 384) where
     -- The clock has no digit above the six.
     clock-below : t < 64 ^ 6

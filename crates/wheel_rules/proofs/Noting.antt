@@ -3,7 +3,7 @@
 use Prim.Native.Nat.{ℕ, zero, suc, ◌+◌, ◌-◌, ◌≤◌, ◌<◌}
 use native.Mathlib.Omega.{arith}
 use native.Mathlib.Numerals.{add-one}
-use mathlib.Core.Bool.{Bool, true, false, ◌&&◌, and-true, and_assoc}
+use mathlib.Core.Bool.{Bool, true, false, cond, ◌&&◌, and-true, and_assoc}
 use mathlib.Core.List.{List, [], ◌∷◌, ◌++◌, append-nil, append_assoc}
 use mathlib.Core.Path.{◌≡◌, refl, sym, ap, ◌∙◌}
 use lib.Dec.{ltb, eqb}
@@ -13,7 +13,6 @@ use borrow.Author.Tests.{le-leb, lt-leb}
 use Rattle.cells.specs.Words.{word}
 use Rattle.cells.specs.Stack.{no_cell, link}
 use Rattle.audits.specs.AuditTests.{all_below}
-use Rattle.cells.proofs.Cases.{test, clash}
 use Rattle.audits.proofs.Below.{below_fails, below_step, below_end}
 use Rattle.slots.specs.declared.ring.Ends.{Ends}
 use Rattle.wheel_rules.specs.AuditTests.{
@@ -32,6 +31,9 @@ use Rattle.wheel_rules.specs.AuditTests.{
   AllNoted,
 }
 use Rattle.wheel_rules.specs.declared.walk.Noted.{Noted}
+use Rattle.std.specs.Option.{is_some}
+use Rattle.std.specs.declared.option.Option.{Option}
+use Rattle.std.specs.declared.option.Option.TheVariants.{None, Some}
 use Rattle.wheel_rules.proofs.Walks.{walked_stop, walked_on, walked-few, closes-stop, closes-on, stand-none}
 
 module _ (w : List ℕ) (n t i : ℕ) (e : Ends) (m : ℕ) (a₀ : List ℕ) where
@@ -77,20 +79,24 @@ module _ (w : List ℕ) (n t i : ℕ) (e : Ends) (m : ℕ) (a₀ : List ℕ) whe
               ∙ v.rise);
         }
 
-    module _ (r : Noted) (told : r ≡ record { count = k; sound = eqb c no_cell && eqb p e.last; rise = up }) where
+    module _ (r : Option Noted) (told : r ≡ cond (eqb c no_cell && eqb p e.last) (Some (record { count = k; rise = up })) None) where
       -- Where nothing is left to walk, what is noted is the whole.
       ended : walked (stand_test w n t i) (link w) (n - k) p c ≡ []
           → closes (stand_test w n t i) (link w) e.last (n - k) p c ≡ (eqb c no_cell && eqb p e.last)
           → ListNoted w n t i e m a₀ r a
       unfolding climbs
-      ended x₀ y =
-          rw told
-          (record {
-            sound = sym y ∙ v.ring;
-            few = v.few;
-            list = sym (append-nil (take k a)) ∙ ap (λ (l : List ℕ). take k a ++ l) (sym x₀) ∙ v.list;
-            rise = sym (and-true up) ∙ ap (λ (l : List ℕ). up && climbs w x l) (sym x₀) ∙ v.rise;
-          })
+      ended x₀ y = rw told (go (eqb c no_cell && eqb p e.last) refl)
+        where
+          go : (b : Bool) → (eqb c no_cell && eqb p e.last) ≡ b
+              → ListNoted w n t i e m a₀ (cond b (Some (record { count = k; rise = up })) None) a
+          go true q =
+              record {
+                sound = sym q ∙ sym y ∙ v.ring;
+                few = v.few;
+                list = sym (append-nil (take k a)) ∙ ap (λ (l : List ℕ). take k a ++ l) (sym x₀) ∙ v.list;
+                rise = sym (and-true up) ∙ ap (λ (l : List ℕ). up && climbs w x l) (sym x₀) ∙ v.rise;
+              }
+          go false q = record { sound = sym q ∙ sym y ∙ v.ring; few = tt; list = tt; rise = tt }
 
       -- The next cell does not stand there.
       pub walking-stop : stand_test w n t i p c ≡ false → ListNoted w n t i e m a₀ r a
@@ -105,8 +111,8 @@ module _ (w : List ℕ) (n t i : ℕ) (e : Ends) (m : ℕ) (a₀ : List ℕ) whe
       walking-full h = let none : n - k ≡ 0 = omega arith in ended (rw none) (rw none)
 
   -- A list that has no first cell is walked at once.
-  pub walking-none : n ≤ no_cell → m ≤ n → (f : Ends) → f ≡ e → f.first ≡ no_cell → (r : Noted)
-      → r ≡ record { count = m; sound = eqb f.first no_cell && eqb no_cell f.last; rise = true }
+  pub walking-none : n ≤ no_cell → m ≤ n → (f : Ends) → f ≡ e → f.first ≡ no_cell → (r : Option Noted)
+      → r ≡ cond (eqb f.first no_cell && eqb no_cell f.last) (Some (record { count = m; rise = true })) None
       → ListNoted w n t i e m a₀ r a₀
   walking-none small h f same q r told =
       let none : e.first ≡ no_cell = sym (ap (λ (x : Ends). x.first) same) ∙ q in
@@ -126,13 +132,12 @@ module _ (w : List ℕ) (n t : ℕ) (ends : ℕ → Ends) where
       go xs ys h l = omega (arith, length-append xs ys)
 
   -- Nor are more counted.
-  pub found-few : (r : Noted) → WalkFound w n t ends r → r.count ≤ n
-  found-few r d = test r.sound (λ e. omega (arith, rw e at d.count, noted-few 385)) (λ e. omega (arith, rw e at d.count))
+  pub found-few : (r : Noted) → WalkFound w n t ends (Some r) → r.count ≤ n
+  found-few r d = omega (arith, d.count, noted-few 385)
 
   -- There are too many cells, or a list is not sound.
-  pub found-unsound : (r : Noted) → walk_test w n t ends ≡ false → r ≡ record { count = 0; sound = false; rise = false }
-      → WalkFound w n t ends r
-  found-unsound r h e = rw e (record { sound = sym h; count = refl; rise = refl })
+  pub found-unsound : walk_test w n t ends ≡ false → WalkFound w n t ends None
+  found-unsound h = record { sound = sym h; count = tt; rise = tt }
 
   -- There are too many cells.
   pub walk-many : no_cell < n → walk_test w n t ends ≡ false
@@ -159,31 +164,28 @@ module _ (w : List ℕ) (n t : ℕ) (ends : ℕ → Ends) where
     unfolding noted all_below
     along-start = record { upto = omega arith; few = omega arith; size = refl; sound = refl; list = refl; rise = refl }
 
-    module _ (room : n ≤ length a₀) (a a' : List ℕ) (i m : ℕ) (up : Bool) (v : Along a i m up) (r : Noted)
-        (d : ListNoted w n t i (ends i) m a r a') where
+    module _ (room : n ≤ length a₀) (a a' : List ℕ) (i m : ℕ) (up : Bool) (v : Along a i m up) where
       -- So many are noted before list i.
       counted : m ≡ length (noted w n t ends i)
       counted = sym (length-take-le m a (omega (arith, v.few, v.size))) ∙ ap length v.list
 
       -- What the walk found is the test of list i.
-      tested : r.sound ≡ list_test w n t ends i
+      tested : (o : Option Noted) → ListNoted w n t i (ends i) m a o a' → is_some o ≡ list_test w n t ends i
       unfolding list_test
-      tested = d.sound ∙ ap (λ (k : ℕ). ring_test w n t i (ends i) (n - k)) counted
-
-      -- So it is of its order numbers.
-      climbed : r.rise ≡ list_climbs w n t ends i
-      unfolding list_climbs
-      climbed = d.rise ∙ ap (λ (k : ℕ). climbs w 0 (list_cells w n t i (ends i) (n - k))) counted
+      tested o d = d.sound ∙ ap (λ (k : ℕ). ring_test w n t i (ends i) (n - k)) counted
 
       -- One list further.
-      pub along-on : i < 385 → length a' ≡ length a → r.sound ≡ true → Along a' (i + 1) r.count (up && r.rise)
-      unfolding noted all_below
-      along-on h same s =
+      pub along-on : (r : Noted) → ListNoted w n t i (ends i) m a (Some r) a' → i < 385 → length a' ≡ length a
+          → Along a' (i + 1) r.count (up && r.rise)
+      unfolding noted all_below list_climbs
+      along-on r d h same =
+          let climbed : r.rise ≡ list_climbs w n t ends i =
+          d.rise ∙ ap (λ (k : ℕ). climbs w 0 (list_cells w n t i (ends i) (n - k))) counted in
           record {
             upto = omega arith;
             few = d.few;
             size = same ∙ v.size;
-            sound = below_step (list_test w n t ends) i v.sound (sym tested ∙ s);
+            sound = below_step (list_test w n t ends) i v.sound (sym (tested (Some r) d));
             list =
                 rw add-one
                 (d.list
@@ -193,30 +195,27 @@ module _ (w : List ℕ) (n t : ℕ) (ends : ℕ → Ends) where
           }
 
       -- The list is not sound.
-      pub along-fails : n ≤ no_cell → i < 385 → r.sound ≡ false → (q : Noted) → q ≡ record { count = 0; sound = false; rise = false }
-          → AllNoted w n t ends q a'
-      along-fails small h s q e =
+      pub along-fails : n ≤ no_cell → i < 385 → ListNoted w n t i (ends i) m a None a' → AllNoted w n t ends None a'
+      along-fails small h d =
           record {
-            found = found-unsound q (walk-lists small ∙ below_fails (list_test w n t ends) 385 i h (sym tested ∙ s)) e;
-            list = λ z. clash z (ap (λ (x : Noted). x.sound) e);
+            found = found-unsound (walk-lists small ∙ below_fails (list_test w n t ends) 385 i h (sym (tested None d)));
+            list = tt;
           }
 
     -- All lists are walked.
-    pub along-end : (a : List ℕ) (i m : ℕ) (up : Bool) → n ≤ no_cell → n ≤ length a₀ → Along a i m up → 385 ≤ i → (q : Noted)
-        → q ≡ record { count = m; sound = true; rise = up }
-        → AllNoted w n t ends q a
-    along-end a i m up small room v h q e =
+    pub along-end : (a : List ℕ) (i m : ℕ) (up : Bool) → n ≤ no_cell → n ≤ length a₀ → Along a i m up → 385 ≤ i
+        → AllNoted w n t ends (Some (record { count = m; rise = up })) a
+    along-end a i m up small room v h =
         let last : i ≡ 385 = omega (arith, v.upto) in
         let list : take m a ≡ noted w n t ends 385 = rw last at v.list in
-        rw e
-        (record {
+        record {
           found = record {
             sound = below_end (list_test w n t ends) i 385 last v.sound ∙ sym (walk-lists small);
             count = sym (length-take-le m a (omega (arith, v.few, v.size))) ∙ ap length list;
             rise = rw last at v.rise;
           };
-          list = λ z. list;
-        })
+          list = list;
+        }
 
 -- The fronts of two lists are equally long.
 pub same-front : (m : ℕ) (a b : List ℕ) → m ≤ length a → m ≤ length b → length (take m a) ≡ length (take m b)

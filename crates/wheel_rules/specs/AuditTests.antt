@@ -1,6 +1,7 @@
 -- The tests by which the wheel's audit decides its rules; that they do is proved in `proofs/Audits.antt`.
 -- Assumes nothing.
-use Rattle.std.specs.Prelude.{ℕ, zero, suc, ◌+◌, ◌-◌, ◌/◌, ◌≤◌, Bool, true, cond, not, ◌&&◌, ◌||◌, List, [], ◌∷◌, ◌++◌, ◌≡◌, leb, ltb, eqb, length, get_or, take}
+use Rattle.std.specs.Prelude.{ℕ, zero, suc, ◌+◌, ◌-◌, ◌/◌, ◌≤◌, Bool, true, cond, not, ◌&&◌, ◌||◌, List, [], ◌∷◌, ◌++◌, ◌≡◌, leb, ltb, eqb, length, get_or, take, is_some, IfSome}
+use Rattle.std.specs.declared.option.Option.{Option}
 use Rattle.cells.specs.Words.{word}
 use Rattle.cells.specs.Stack.{no_cell, is_free, frees, link}
 use Rattle.cell_sort.specs.Sorted.{sort_by, cell_leq}
@@ -116,20 +117,20 @@ audit_test l d =
     && (all_below 384 (mark_test l.first l.marks)
     && lists_test l.words d.store.cells d.clock (ends_in l.first l.last l.due))))
 
--- What the walk through list i leaves, of the first m cells noted in a: more cells in a', r.count in all.
-pub record ListNoted (w : List ℕ) (n t i : ℕ) (e : Ends) (m : ℕ) (a : List ℕ) (r : Noted) (a' : List ℕ) : Type 0 where
-  pub sound : r.sound ≡ ring_test w n t i e (n - m)
-  pub few : r.count ≤ n
-  pub list : take r.count a' ≡ take m a ++ list_cells w n t i e (n - m)
-  pub rise : r.rise ≡ climbs w 0 (list_cells w n t i e (n - m))
+-- What the walk through list i finds, and leaves, of the first m cells noted in a: more cells in a', r.count in all.
+pub record ListNoted (w : List ℕ) (n t i : ℕ) (e : Ends) (m : ℕ) (a : List ℕ) (r : Option Noted) (a' : List ℕ) : Type 0 where
+  pub sound : is_some r ≡ ring_test w n t i e (n - m)
+  pub few : IfSome r (λ f. f.count ≤ n)
+  pub list : IfSome r (λ f. take f.count a' ≡ take m a ++ list_cells w n t i e (n - m))
+  pub rise : IfSome r (λ f. f.rise ≡ climbs w 0 (list_cells w n t i e (n - m)))
 
--- What a walk through all lists finds: whether all are sound, how many cells they have, and whether order numbers rise along each.
-pub record WalkFound (w : List ℕ) (n t : ℕ) (ends : ℕ → Ends) (r : Noted) : Type 0 where
-  pub sound : r.sound ≡ walk_test w n t ends
-  pub count : r.count ≡ cond r.sound (length (noted w n t ends 385)) 0
-  pub rise : r.rise ≡ (r.sound && all_below 385 (list_climbs w n t ends))
+-- What a walk through all lists finds: whether all are sound, and then how many cells they have, and whether order numbers rise along each.
+pub record WalkFound (w : List ℕ) (n t : ℕ) (ends : ℕ → Ends) (r : Option Noted) : Type 0 where
+  pub sound : is_some r ≡ walk_test w n t ends
+  pub count : IfSome r (λ f. f.count ≡ length (noted w n t ends 385))
+  pub rise : IfSome r (λ f. f.rise ≡ all_below 385 (list_climbs w n t ends))
 
 -- What it leaves besides: their cells.
-pub record AllNoted (w : List ℕ) (n t : ℕ) (ends : ℕ → Ends) (r : Noted) (a' : List ℕ) : Type 0 where
+pub record AllNoted (w : List ℕ) (n t : ℕ) (ends : ℕ → Ends) (r : Option Noted) (a' : List ℕ) : Type 0 where
   pub found : WalkFound w n t ends r
-  pub list : r.sound ≡ true → take r.count a' ≡ noted w n t ends 385
+  pub list : IfSome r (λ f. take f.count a' ≡ noted w n t ends 385)

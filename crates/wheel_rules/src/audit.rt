@@ -14,6 +14,7 @@ use dial::state::Dial;
 use slots::slots::{ends_of, marks_at};
 
 // Whether the clock is a tick.
+#[tactic(auto, unfolding(crate::specs::AuditTests::dial_test, places::specs::Ticks::last_tick))]
 fn dial_sound(d: Dial) -> bool
     ensures { result ≡ dial_test d }
 {
@@ -21,15 +22,11 @@ fn dial_sound(d: Dial) -> bool
 }
 
 // Whether there are arrays for 384 slots and 6 words of marks.
+#[tactic(auto, unfolding(crate::specs::AuditTests::arrays_test))]
 fn arrays_sound(first: &[u16], last: &[u16], marks: &[u64]) -> bool
     ensures { result ≡ arrays_test first.now last.now marks.now }
 {
-    if first.len() == 384 {
-        if last.len() == 384 {
-            return marks.len() == 6;
-        }
-    }
-    false
+    first.len() == 384 && last.len() == 384 && marks.len() == 6
 }
 
 // Whether slot i is marked exactly if it has a first cell.
@@ -37,23 +34,18 @@ fn mark_sound(first: &[u16], marks: &[u64], i: u64) -> bool
     ensures { result ≡ mark_test first.now marks.now i }
 {
     let e = ends_of(first, first, i);
-    let m = marks_at(marks, i / 64);
-    if (m >> (i % 64)) % 2 == 1 {
-        return e.first != 4096;
-    }
-    e.first == 4096
+    let marked = (marks_at(marks, i / 64) >> (i % 64)) % 2 == 1;
+    marked == (e.first != 4096)
 }
 
 // Whether every slot's mark is sound.
 fn marks_sound(first: &[u16], marks: &[u64]) -> bool
     ensures { result ≡ all_below 384 (mark_test first.now marks.now) }
 {
-    let mut i: u64 = 0;
-    while i < 384 {
+    for i in 0..384 {
         if !mark_sound(first, marks, i) {
             return false;
         }
-        i += 1;
     }
     true
 }
@@ -65,18 +57,10 @@ fn lists_sound(w: &[u64], first: &[u16], last: &[u16], d: Dial, free: u64) -> bo
     ensures { result ≡ lists_test w.now d.store.cells d.clock
         (ends_in first.now last.now d.due) }
 {
-    let got = walked(w, first, last, d);
-    if !got.sound {
+    let Some(got) = walked(w, first, last, d) else {
         return false;
-    }
-    let s = d.store;
-    if s.cells - got.count != free {
-        return false;
-    }
-    if got.rise {
-        return true;
-    }
-    sorted_rise(w, first, last, d)
+    };
+    d.store.cells - got.count == free && (got.rise || sorted_rise(w, first, last, d))
 }
 
 // Whether head and memory keep to the rules, the arrays lent.
@@ -86,16 +70,10 @@ pub fn lent_sound(w: &[u64], first: &[u16], last: &[u16], marks: &[u64], d: Dial
     if !dial_sound(d) {
         return false;
     }
-    let s = d.store;
-    let v = audit_and_count(w, s, 192, 239);
-    if !v.sound {
+    let Some(free) = audit_and_count(w, d.store, 192, 239) else {
         return false;
-    }
-    if !arrays_sound(first, last, marks) {
-        return false;
-    }
-    if !marks_sound(first, marks) {
-        return false;
-    }
-    lists_sound(w, first, last, d, v.free)
+    };
+    arrays_sound(first, last, marks)
+        && marks_sound(first, marks)
+        && lists_sound(w, first, last, d, free)
 }

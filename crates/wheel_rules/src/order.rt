@@ -4,31 +4,24 @@ ghost use Rattle.std.specs.Prelude.{◌≡◌};
 ghost use Rattle.cell_sort.specs.Sorted.{sorted_list};
 ghost use Rattle.wheel_rules.specs.AuditTests.{rise_test, neighbours_rise};
 
-use cell_sort::sort::sort;
-use cells::words::get;
+use cell_sort::sort::{sort, word_of};
 
 // Whether cells a and b, if of equal deadline, rise in order number.
+#[tactic(auto, unfolding(crate::specs::AuditTests::rise_test))]
 fn pair_rises(w: &[u64], a: u16, b: u16) -> bool
     ensures { result ≡ rise_test w.now a b }
 {
-    let c = a as u64;
-    let d = b as u64;
-    if get(w, c, 2) == get(w, d, 2) {
-        return get(w, c, 1) < get(w, d, 1);
-    }
-    true
+    word_of(w, a, 2) != word_of(w, b, 2) || word_of(w, a, 1) < word_of(w, b, 1)
 }
 
 // Whether each two neighbours in a rise.
 fn all_rise(w: &[u64], a: &[u16]) -> bool
     ensures { result ≡ neighbours_rise w.now a.now }
 {
-    let mut i = 1;
-    while i < a.len() {
+    for i in 1..a.len() {
         if !pair_rises(w, a[i - 1], a[i]) {
             return false;
         }
-        i += 1;
     }
     true
 }

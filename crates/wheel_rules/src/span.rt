@@ -5,7 +5,7 @@ ghost use Rattle.wheel_rules.specs.Spans.{in_span, SpanOf};
 
 use places::{slot, wake_tick};
 
-// The ticks from low to high: none where low is the higher.
+// The ticks from low to high: none where low is the higher. Two bounds and no Option: a tick is asked for by two comparisons in every list.
 #[derive(Clone, Copy)]
 pub struct Span {
     pub low: u64,
@@ -48,7 +48,7 @@ fn slot_span(clock: u64, i: u64) -> Span
 pub fn span_of(clock: u64, i: u64) -> Span
     ensures { SpanOf clock i result }
 {
-    if (clock > 68719476735) | (i > 384) {
+    if clock > 68719476735 || i > 384 {
         return Span { low: 1, high: 0 };
     }
     if i == 384 {
@@ -61,6 +61,7 @@ pub fn span_of(clock: u64, i: u64) -> Span
 }
 
 // Whether a tick is in the span.
+#[tactic(auto, unfolding(crate::specs::Spans::in_span))]
 pub fn in_span(s: Span, e: u64) -> bool
     ensures { result ≡ in_span s e }
 {

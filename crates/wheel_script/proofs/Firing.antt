@@ -1,11 +1,11 @@
 -- The lines of fired records, one by one.
 -- Assumes nothing.
-use Prim.Native.Nat.{ℕ, zero, suc, ◌+◌, ◌*◌, ◌≤◌, min}
+use Prim.Native.Nat.{ℕ, zero, suc, ◌+◌, ◌*◌, min}
 use native.Mathlib.Omega.{arith}
 use native.Mathlib.Numerals.{add-one}
 use mathlib.Core.List.{List, [], ◌∷◌, ◌++◌, append-nil, append_assoc}
 use mathlib.Core.Path.{◌≡◌, refl, sym, ap, ◌∙◌}
-use lib.ListN.{length, get_or, drop, get_or-eq_default}
+use lib.ListN.{length, get_or, drop}
 use lib.Seq.{get_or-drop, drop-drop}
 use Rattle.script.specs.Answers.{answer_line, Laid}
 use Rattle.script.proofs.Laying.{laid_as, laid_none, laid-join}
@@ -59,15 +59,3 @@ lines-again out out₁ out₂ at r s records i a b =
     (laid-join out out₁ out₂ at r s _ _ a b)
     (lines_snoc (records_in i records) (record_in (drop (i * 4) records))
     ∙ ap fired_lines (records-snoc i records ∙ ap (λ (n : ℕ). records_in n records) (sym (add-one i))))
-
-pub lines-all :
-    (out out' : List ℕ) (at end : ℕ) (records : List ℕ) (i k : ℕ)
-    → k ≤ i
-    → i ≤ k
-    → Laid out at (fired_lines (records_in i records)) out' end
-    → Laid out at (fired_lines (records_in k records)) out' end
-lines-all out out' at end records i k p q a = let e : i ≡ k = omega arith in rw e at a
-
--- Past the end there is no word.
-pub word-past : (records : List ℕ) (i f : ℕ) → length records ≤ i * 4 + f → 0 ≡ get_or records (i * 4 + f) 0
-word-past records i f h = sym (get_or-eq_default records 0 {n = i * 4 + f} h)

@@ -1,6 +1,6 @@
 -- Set-up of a wheel of 1 to 512 cells by the first line, and the lines after it.
 -- Assumes nothing.
-use Prim.Native.Nat.{ℕ, ◌*◌, ◌/◌, ◌≤◌, ◌<◌}
+use Prim.Native.Nat.{ℕ, ◌*◌, ◌/◌, ◌≤◌, ◌<◌, min}
 use native.Mathlib.Omega.{arith}
 use mathlib.Core.Bool.{false}
 use mathlib.Core.List.{List, ◌++◌}
@@ -18,8 +18,10 @@ use Rattle.dial.specs.Lent.{lists_of}
 use Rattle.wheel.specs.Promise.{head_lists, DialShows}
 use Rattle.wheel.specs.SetUps.{set_up_causes, empty_head, fresh_store, set_up_answer, set_up_head, set_up_words}
 use Rattle.dial.specs.declared.state.Dial.{Dial}
-use Rattle.wheel.specs.declared.head.SetUpAnswer.{SetUpAnswer}
-use Rattle.wheel.specs.declared.head.SetUpAnswer.TheVariants as set_up
+use Rattle.std.specs.Prelude.{None, Some, Result, Ok, Err}
+use Rattle.cells.specs.Causes.{number_of, refusal_of}
+use Rattle.cells.specs.declared.refusal.Refusal.{Refusal}
+use Rattle.cells.specs.declared.refusal.Refusal.TheVariants as causes
 use Rattle.wheel.specs.declared.head.Head.{Head}
 use Rattle.wheel.proofs.SetUpShown.{set-up-shows}
 use Rattle.script.specs.Answers.{Laid}
@@ -29,7 +31,6 @@ use Rattle.wheel_script.specs.Commands.{command_of}
 use Rattle.wheel_script.specs.Texts.{bad_text, refused_text, ready_text}
 use Rattle.wheel_script.specs.Spoken.{call_of, Obeyed}
 use Rattle.wheel_script.specs.Runs.{Place, Before, Ended, opening_of, opening_text, opening_place, call_model, printed, following, Blank, Opened, Stands, Reached, Begun, Answered}
-use Rattle.wheel_script.specs.declared.commands.Opening.TheVariants as opening
 use Rattle.wheel_script.specs.declared.serving.Session.{Session}
 use Rattle.wheel_script.specs.declared.serving.Session.TheVariants as session
 use Rattle.wheel_script.proofs.Speaking.{obeyed-shown}
@@ -42,61 +43,62 @@ module _ (w : List ℕ) (n t : ℕ) (long : length w ≡ n * 8) (some : 1 ≤ n)
   right = size-right (length w / 8) (omega (arith, size)) (omega (arith, size))
 
   -- A start above the last tick is refused with 5.
-  late : 68719476735 < t → set_up_answer w t ≡ set_up.Refused 5
-  unfolding set_up_answer set_up_causes first_of bad_size beyond last_tick
+  late : 68719476735 < t → set_up_answer w t ≡ Err causes.Beyond
+  unfolding set_up_answer set_up_causes first_of bad_size beyond last_tick refusal_of
   late h = rw (right, lt-ltb 68719476735 t h)
 
   -- Any other start is accepted.
-  timely : t ≤ 68719476735
-      → (set_up_answer w t ≡ set_up.Ready) × (set_up_head w t ≡ empty_head t (fresh_store w)) × (set_up_words w t ≡ fresh_words w)
-  unfolding set_up_answer set_up_head set_up_words set_up_causes first_of bad_size beyond last_tick
-  timely h = let below = le-ltb 68719476735 t h in (rw (right, below), rw (right, below), rw (right, below))
+  timely : t ≤ 68719476735 → (set_up_answer w t ≡ Ok (set_up_head w t)) × (set_up_words w t ≡ fresh_words w)
+  unfolding set_up_answer set_up_words set_up_causes first_of bad_size beyond last_tick
+  timely h = let below = le-ltb 68719476735 t h in (rw (right, below), rw (right, below))
 
   -- A refusal is by 5, and the start is above the last tick.
-  pub refused-late : (a : SetUpAnswer) (i : ℕ) → a ≡ set_up_answer w t → a ≡ set_up.Refused i → (i ≡ 5) × (68719476735 < t)
-  refused-late a i e f =
+  refused-late : (a : Result Head Refusal) (r : Refusal) → a ≡ set_up_answer w t → a ≡ Err r → (number_of r ≡ 5) × (68719476735 < t)
+  refused-late a r e f =
       at_most? t 68719476735
       (λ h.
       let known = (timely h).0 in
-      let z : ◌≡◌ {A = ℕ} 0 1 = cc in
-      absurd (omega arith))
+      absurd (cc))
       (λ h.
       let known = late h in
-      let five : ◌≡◌ {A = ℕ} i 5 = cc in
-      (five, h))
+      let five : r ≡ causes.Beyond = cc in
+      (ap number_of five, h))
 
-  -- An accepted start is at most the last tick.
-  pub ready-timely : (a : SetUpAnswer) → a ≡ set_up_answer w t → a ≡ set_up.Ready → t ≤ 68719476735
-  ready-timely a e f =
+  -- An accepted start is at most the last tick, and the head is that of a set-up.
+  ready-timely : (a : Result Head Refusal) (head : Head) → a ≡ set_up_answer w t → a ≡ Ok head
+      → (t ≤ 68719476735) × (head ≡ set_up_head w t)
+  ready-timely a head e f =
       at_most? t 68719476735
-      (λ h. h)
+      (λ h.
+      let known = (timely h).0 in
+      (h, cc))
       (λ h.
       let known = late h in
-      let z : ◌≡◌ {A = ℕ} 0 1 = cc in
-      absurd (omega arith))
+      absurd (cc))
 
   -- A refused set-up is the run's.
-  pub begun-refused : (a : SetUpAnswer) (i : ℕ) (out : List ℕ) (at : ℕ) (w' first last marks out' : List ℕ) (end : ℕ)
-      → a ≡ set_up_answer w t → a ≡ set_up.Refused i → Laid out at (refused_text i) out' end
-      → Begun (opening.Wheel n t) out at session.Over w' first last marks out' end
+  pub begun-refused : (a : Result Head Refusal) (r : Refusal) (out : List ℕ) (at : ℕ) (w' first last marks out' : List ℕ) (end : ℕ)
+      → a ≡ set_up_answer w t → a ≡ Err r → Laid out at (refused_text (number_of r)) out' end
+      → Begun (Some (record { cells = n; start = t })) out at session.Over w' first last marks out' end
   unfolding Stands opening_place opening_text
-  begun-refused a i out at w' first last marks out' end e f laid =
-      let known = refused-late a i e f in
+  begun-refused a r out at w' first last marks out' end e f laid =
+      let known = refused-late a r e f in
       let above = lt-ltb 68719476735 t known.1 in
       record { stands = rw above; lines = rw above (laid_as out out' at end _ _ laid (ap refused_text known.0)) }
 
   -- An accepted set-up is the run's, with the arrays of an empty wheel.
-  pub begun-ready : (a : SetUpAnswer) (head : Head) (w' rest first last marks out : List ℕ) (at : ℕ) (out' : List ℕ) (end : ℕ)
-      → a ≡ set_up_answer w t → a ≡ set_up.Ready → head ≡ set_up_head w t → w' ≡ set_up_words w t
+  pub begun-ready : (a : Result Head Refusal) (head : Head) (w' rest first last marks out : List ℕ) (at : ℕ) (out' : List ℕ) (end : ℕ)
+      → a ≡ set_up_answer w t → a ≡ Ok head → w' ≡ set_up_words w t
       → first ≡ replicate 384 4096 → last ≡ replicate 384 4096 → marks ≡ replicate 6 0
       → Laid out at (ready_text n t) out' end
-      → Begun (opening.Wheel n t) out at (session.Open (n * 8) head.dial) (w' ++ rest) first last marks out' end
+      → Begun (Some (record { cells = n; start = t })) out at (session.Open (n * 8) head.dial) (w' ++ rest) first last marks out' end
   unfolding Stands opening_place opening_text head_lists empty_head last_tick
-  begun-ready a head w' rest first last marks out at out' end e f p q x y z laid =
-      let h = ready-timely a e f in
+  begun-ready a head w' rest first last marks out at out' end e f q x y z laid =
+      let accepted = ready-timely a head e f in
+      let h = accepted.0 in
       let known = timely h in
       let below = le-ltb 68719476735 t h in
-      let words : w' ≡ fresh_words w = q ∙ known.2 in
+      let words : w' ≡ fresh_words w = q ∙ known.1 in
       let long' : length w' ≡ n * 8 = ap length words ∙ fresh-length w ∙ long in
       let whole : take (n * 8) (w' ++ rest) ≡ fresh_words w = take_at w' rest (n * 8) long' ∙ words in
       record {
@@ -106,7 +108,7 @@ module _ (w : List ℕ) (n t : ℕ) (long : length w ≡ n * 8) (some : 1 ≤ n)
               model = fresh n t;
               place = refl;
               shows =
-                  rw (whole, x, y, z, p ∙ known.1)
+                  rw (whole, x, y, z, accepted.1)
                   (subst (λ (k : ℕ). DialShows (head_lists (empty_head t (fresh_store w)) (fresh_words w)) (empty_head t (fresh_store w)).dial (fresh k t)) size
                   (set-up-shows w t (omega (arith, size)) (omega (arith, size)) h));
             });
@@ -115,7 +117,7 @@ module _ (w : List ℕ) (n t : ℕ) (long : length w ≡ n * 8) (some : 1 ≤ n)
 
 -- A bad first line ends the run.
 pub begun-wrong : (out : List ℕ) (at : ℕ) (w first last marks out' : List ℕ) (end : ℕ) → Laid out at bad_text out' end
-    → Begun opening.Wrong out at session.Over w first last marks out' end
+    → Begun None out at session.Over w first last marks out' end
 unfolding Stands opening_place opening_text
 begun-wrong out at w first last marks out' end laid = record { stands = refl; lines = laid }
 
@@ -152,11 +154,12 @@ module _ (was : Session) (w first last marks line out : List ℕ) (at : ℕ) (p 
       })
 
   -- Once the run is over.
-  pub answered-over : was ≡ session.Over → at ≤ length out → Stands was w first last marks p → Answered p line out at session.Over w first last marks out at
+  pub answered-over : (end : ℕ) → was ≡ session.Over → end ≡ min at (length out) → Stands was w first last marks p
+      → Answered p line out at session.Over w first last marks out end
   unfolding Stands following printed
-  answered-over e h s =
+  answered-over end e h s =
       let over : p ≡ Ended = subst (λ (x : Session). Stands x w first last marks p) e s in
-      rw over (record { stands = refl; lines = laid_none out at at (omega arith) })
+      rw over (record { stands = refl; lines = laid_none out at end (omega arith) })
 
 -- From any place of a run an answered line reaches the next.
 pub reached-on : (was now : Session) (w first last marks line out : List ℕ) (at : ℕ) (w' first' last' marks' out' : List ℕ) (end : ℕ)

@@ -7,12 +7,13 @@ use mathlib.Core.Path.{◌≡◌, subst}
 use lib.Dec.{leb, eqb}
 use borrow.Author.Tests.{leb-true, le-leb, lt-leb, eq-eqb, ne_eqb}
 use Rattle.cells.proofs.Cases.{test, same?, at_most?}
-use Rattle.script.specs.declared.reading.Read.{Read}
-use Rattle.script.specs.declared.reading.Read.TheVariants as read
-use Rattle.wheel_script.specs.Commands.{wheel_of, advance_of, of_two, of_three, of_count, command_of}
+use Rattle.std.specs.Prelude.{Option, None, Some}
+use Rattle.script.specs.declared.reading.Line.{Line}
+use Rattle.script.specs.declared.reading.Numbers.{Numbers}
+use Rattle.script.specs.declared.reading.Numbers.TheVariants as numbers
+use Rattle.wheel_script.specs.Commands.{wheel_of, advance_of, of_two, of_three, of_line, command_of}
 use Rattle.wheel_script.specs.Runs.{opening_of}
 use Rattle.wheel_script.specs.declared.commands.Opening.{Opening}
-use Rattle.wheel_script.specs.declared.commands.Opening.TheVariants as opening
 use Rattle.wheel_script.specs.declared.commands.Command.{Command}
 use Rattle.wheel_script.specs.declared.commands.Command.TheVariants as command
 
@@ -42,23 +43,28 @@ wheel-ranged n t =
     rw (ne_eqb n 0 e)
     (at_most? n 512 (λ h. rw (le-leb n 512 h) (omega arith, h)) (λ h. rw (lt-leb n 512 h) tt)))
 
-ranged : (r : Read) → Ranged (command_of r)
-unfolding command_of of_count of_two of_three
-ranged read.Bad = tt
-ranged (read.Line w n a b c) =
-    either (eqb n 2) _ _
-    (either (eqb w 65) (command.Arm a b) _ tt
+line-ranged : (w : ℕ) (n : Numbers) → Ranged (of_line w n)
+unfolding of_line of_two of_three
+line-ranged w numbers.Zero = tt
+line-ranged w (numbers.One a) = tt
+line-ranged w (numbers.Two a b) =
+    either (eqb w 65) (command.Arm a b) _ tt
     (either (eqb w 67) (command.Cancel a b) _ tt
-    (either (eqb w 71) _ _ (advance-ranged a b) (either (eqb w 512852583788) _ command.Bad (wheel-ranged a b) tt))))
-    (either (eqb n 3) _ command.Bad (either (eqb w 77) (command.Move a b c) command.Bad tt tt) tt)
+    (either (eqb w 71) _ _ (advance-ranged a b) (either (eqb w 512852583788) _ command.Bad (wheel-ranged a b) tt)))
+line-ranged w (numbers.Three a b c) = either (eqb w 77) (command.Move a b c) command.Bad tt tt
 
-pub room_bound : (r : Read) (t room : ℕ) → command_of r ≡ command.Advance t room → room ≤ 64
+ranged : (r : Option Line) → Ranged (command_of r)
+unfolding command_of
+ranged None = tt
+ranged (Some l) = line-ranged l.word l.numbers
+
+pub room_bound : (r : Option Line) (t room : ℕ) → command_of r ≡ command.Advance t room → room ≤ 64
 room_bound r t room e = subst Ranged e (ranged r)
 
 -- What holds of the numbers of a first line.
-abbrev Sized : Opening → Type 0
-Sized opening.Wrong = Unit {0}
-Sized (opening.Wheel n t) = (1 ≤ n) × (n ≤ 512)
+abbrev Sized : Option Opening → Type 0
+Sized None = Unit {0}
+Sized (Some o) = (1 ≤ o.cells) × (o.cells ≤ 512)
 
 sized : (x : Command) → Ranged x → Sized (opening_of x)
 unfolding opening_of
@@ -69,5 +75,5 @@ sized (command.Cancel c k) p = tt
 sized (command.Move c k e) p = tt
 sized (command.Advance t r) p = tt
 
-pub size-bound : (r : Read) (n t : ℕ) → opening_of (command_of r) ≡ opening.Wheel n t → (1 ≤ n) × (n ≤ 512)
-size-bound r n t e = subst Sized e (sized (command_of r) (ranged r))
+pub size-bound : (r : Option Line) (o : Opening) → opening_of (command_of r) ≡ Some o → (1 ≤ o.cells) × (o.cells ≤ 512)
+size-bound r o e = subst Sized e (sized (command_of r) (ranged r))

@@ -1,8 +1,9 @@
 -- The commands of the wheel's script, by word and count of numbers. A word is its bytes as a base-256 number.
 -- Assumes nothing.
-use Rattle.std.specs.Prelude.{ℕ, cond, leb, eqb}
-use Rattle.script.specs.declared.reading.Read.{Read}
-use Rattle.script.specs.declared.reading.Read.TheVariants as read
+use Rattle.std.specs.Prelude.{ℕ, cond, leb, eqb, Option, None, Some}
+use Rattle.script.specs.declared.reading.Line.{Line}
+use Rattle.script.specs.declared.reading.Numbers.{Numbers}
+use Rattle.script.specs.declared.reading.Numbers.TheVariants as numbers
 use Rattle.wheel_script.specs.declared.commands.Command.{Command}
 use Rattle.wheel_script.specs.declared.commands.Command.TheVariants as command
 
@@ -24,10 +25,14 @@ of_two w a b =
 unfoldable pub of_three : ℕ → ℕ → ℕ → ℕ → Command
 of_three w a b c = cond (eqb w 77) (command.Move a b c) command.Bad
 
-unfoldable pub of_count : ℕ → ℕ → ℕ → ℕ → ℕ → Command
-of_count w n a b c = cond (eqb n 2) (of_two w a b) (cond (eqb n 3) (of_three w a b c) command.Bad)
+-- A word and the numbers after it: each command has two or three.
+unfoldable pub of_line : ℕ → Numbers → Command
+of_line w numbers.Zero = command.Bad
+of_line w (numbers.One a) = command.Bad
+of_line w (numbers.Two a b) = of_two w a b
+of_line w (numbers.Three a b c) = of_three w a b c
 
 -- "any other line, an empty one or an N or room out of range too, gives `bad line`"
-unfoldable pub command_of : Read → Command
-command_of read.Bad = command.Bad
-command_of (read.Line w n a b c) = of_count w n a b c
+unfoldable pub command_of : Option Line → Command
+command_of None = command.Bad
+command_of (Some l) = of_line l.word l.numbers

@@ -1,7 +1,7 @@
 -- A run of the script on the plain list, line by line; and when session, words and arrays stand where such a run does.
 -- Assumes nothing.
 use Rattle.std.specs.Prelude.{ℕ, ◌≤◌, cond, List, [], ◌≡◌, ltb, length, take, replicate}
-use Rattle.std.proofs.Math.Option.{Option, none, some}
+use Rattle.std.specs.Prelude.{Option, None, Some}
 use Rattle.script.specs.Grammar.{read_line}
 use Rattle.script.specs.Answers.{Laid}
 use Rattle.meaning.specs.Calls.{Call}
@@ -16,7 +16,6 @@ use Rattle.wheel_script.specs.Spoken.{call_of}
 use Rattle.wheel_script.specs.declared.commands.Command.{Command}
 use Rattle.wheel_script.specs.declared.commands.Command.TheVariants as command
 use Rattle.wheel_script.specs.declared.commands.Opening.{Opening}
-use Rattle.wheel_script.specs.declared.commands.Opening.TheVariants as opening
 use Rattle.wheel_script.specs.declared.serving.Session.{Session}
 use Rattle.wheel_script.specs.declared.serving.Session.TheVariants as session
 
@@ -26,33 +25,33 @@ pub data Place : Type 0 where
   Running : Plain → Place
   Ended : Place
 
--- What the first line sets up.
-unfoldable pub opening_of : Command → Opening
-opening_of command.Bad = opening.Wrong
-opening_of (command.Wheel n t) = opening.Wheel n t
-opening_of (command.Arm e x) = opening.Wrong
-opening_of (command.Cancel c k) = opening.Wrong
-opening_of (command.Move c k e) = opening.Wrong
-opening_of (command.Advance t r) = opening.Wrong
+-- What the first line sets up, if it is right.
+unfoldable pub opening_of : Command → Option Opening
+opening_of command.Bad = None
+opening_of (command.Wheel n t) = Some (record { cells = n; start = t })
+opening_of (command.Arm e x) = None
+opening_of (command.Cancel c k) = None
+opening_of (command.Move c k e) = None
+opening_of (command.Advance t r) = None
 
 -- "First line `wheel N t` .., answered `wheel N clock t`"; "A first line that is bad or refused gives `bad line` or its refusal".
-unfoldable pub opening_text : Opening → List ℕ
-opening_text opening.Wrong = bad_text
-opening_text (opening.Wheel n t) = cond (ltb 68719476735 t) (refused_text 5) (ready_text n t)
+unfoldable pub opening_text : Option Opening → List ℕ
+opening_text None = bad_text
+opening_text (Some o) = cond (ltb 68719476735 o.start) (refused_text 5) (ready_text o.cells o.start)
 
 -- "and ends the run"
-unfoldable pub opening_place : Opening → Place
-opening_place opening.Wrong = Ended
-opening_place (opening.Wheel n t) = cond (ltb 68719476735 t) Ended (Running (fresh n t))
+unfoldable pub opening_place : Option Opening → Place
+opening_place None = Ended
+opening_place (Some o) = cond (ltb 68719476735 o.start) Ended (Running (fresh o.cells o.start))
 
 -- The answer of a call, or a bad line.
 unfoldable pub call_text : Option Call → Plain → List ℕ
-call_text none m = bad_text
-call_text (some call) m = answer_text (step call m).answer
+call_text None m = bad_text
+call_text (Some call) m = answer_text (step call m).answer
 
 unfoldable pub call_model : Option Call → Plain → Plain
-call_model none m = m
-call_model (some call) m = (step call m).next
+call_model None m = m
+call_model (Some call) m = (step call m).next
 
 -- What a line prints.
 unfoldable pub printed : Place → List ℕ → List ℕ
@@ -91,7 +90,7 @@ pub record Reached (session : Session) (w first last marks : List ℕ) : Type 0 
   pub stands : Stands session w first last marks place
 
 -- The first line is answered.
-pub record Begun (x : Opening) (out : List ℕ) (at : ℕ) (session : Session) (w first last marks out' : List ℕ) (end : ℕ) : Type 0 where
+pub record Begun (x : Option Opening) (out : List ℕ) (at : ℕ) (session : Session) (w first last marks out' : List ℕ) (end : ℕ) : Type 0 where
   pub stands : Stands session w first last marks (opening_place x)
   pub lines : Laid out at (opening_text x) out' end
 

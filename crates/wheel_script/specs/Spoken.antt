@@ -1,7 +1,7 @@
 -- What a command after the first line does: the wheel keeps its promise, and what is printed is the promise's answer.
 -- Assumes nothing.
 use Rattle.std.specs.Prelude.{ℕ, List, ◌≡◌}
-use Rattle.std.proofs.Math.Option.{Option, none, some}
+use Rattle.std.specs.Prelude.{Option, None, Some}
 use Rattle.script.specs.Answers.{Laid}
 use Rattle.meaning.specs.Calls.{Call, Arm, Move, Cancel, Advance, Answer}
 use Rattle.slots.specs.Rings.{Lists}
@@ -25,14 +25,14 @@ pub record Spurned (l : Lists) (d : Dial) (out : List ℕ) (at : ℕ) (l' : List
 
 -- The call of a command; a wheel is set up by the first line alone.
 unfoldable pub call_of : Command → Option Call
-call_of command.Bad = none
-call_of (command.Wheel n t) = none
-call_of (command.Arm e x) = some (Arm e x)
-call_of (command.Cancel c k) = some (Cancel c k)
-call_of (command.Move c k e) = some (Move c k e)
-call_of (command.Advance t r) = some (Advance t r)
+call_of command.Bad = None
+call_of (command.Wheel n t) = None
+call_of (command.Arm e x) = Some (Arm e x)
+call_of (command.Cancel c k) = Some (Cancel c k)
+call_of (command.Move c k e) = Some (Move c k e)
+call_of (command.Advance t r) = Some (Advance t r)
 
 -- A line after the first: its call, or a bad line.
 unfoldable pub Obeyed : Option Call → Lists → Dial → List ℕ → ℕ → Lists → Dial → List ℕ → ℕ → Type 0
-Obeyed none l d out at l' d' out' end = Spurned l d out at l' d' out' end
-Obeyed (some call) l d out at l' d' out' end = Spoken call l d out at l' d' out' end
+Obeyed None l d out at l' d' out' end = Spurned l d out at l' d' out' end
+Obeyed (Some call) l d out at l' d' out' end = Spoken call l d out at l' d' out' end

@@ -1,11 +1,11 @@
-// A script line as a command to the wheel: the word, the count of its numbers and their ranges must all be right.
+// A script line as a command to the wheel: the word, how many numbers follow it and their ranges must all be right.
 
 ghost use Rattle.std.specs.Prelude.{◌≡◌};
 ghost use Rattle.script.specs.Grammar.{read_line};
-ghost use Rattle.wheel_script.specs.Commands.{wheel_of, advance_of, of_two, of_three, of_count, command_of};
+ghost use Rattle.wheel_script.specs.Commands.{wheel_of, advance_of, of_two, of_three, of_line, command_of};
 ghost use Rattle.wheel_script.specs.Runs.{opening_of};
 
-use script::reading::{Read, read_line};
+use script::reading::{Line, Numbers, read_line};
 
 // Each command with its numbers, in the order of the line.
 #[derive(Clone, Copy)]
@@ -18,113 +18,100 @@ pub enum Command {
     Advance(u64, u64),
 }
 
-// What a first line sets up: so many cells and the start clock, or nothing.
+// What a first line sets up: a wheel of so many cells, with its clock at the start.
 #[derive(Clone, Copy)]
-pub enum Opening {
-    Wrong,
-    Wheel(u64, u64),
+pub struct Opening {
+    pub cells: u64,
+    pub start: u64,
 }
 
-// The words as `read_line` reads them: bytes as a base-256 number.
-const WHEEL: u64 = 512852583788;
+// The words as `read_line` reads them, bytes as a base-256 number, since the grammar's `word_number` has them so.
+const WHEEL: u64 = 0x776865656c;
 
-const ARM: u64 = 65;
+const ARM: u64 = b'A' as u64;
 
-const CANCEL: u64 = 67;
+const CANCEL: u64 = b'C' as u64;
 
-const MOVE: u64 = 77;
+const MOVE: u64 = b'M' as u64;
 
-const ADVANCE: u64 = 71;
+const ADVANCE: u64 = b'G' as u64;
 
 // A wheel of 1 to 512 cells.
+#[tactic(auto, unfolding(crate::specs::Commands::wheel_of))]
 fn wheel_of(n: u64, t: u64) -> Command
     ensures { result ≡ wheel_of n t }
 {
-    if n == 0 {
-        return Command::Bad;
+    match n {
+        1..=512 => Command::Wheel(n, t),
+        _ => Command::Bad,
     }
-    if n > 512 {
-        return Command::Bad;
-    }
-    Command::Wheel(n, t)
 }
 
 // An advance with room for at most 64 records.
+#[tactic(auto, unfolding(crate::specs::Commands::advance_of))]
 fn advance_of(target: u64, room: u64) -> Command
     ensures { result ≡ advance_of target room }
 {
-    if room > 64 {
-        return Command::Bad;
+    match room {
+        0..=64 => Command::Advance(target, room),
+        _ => Command::Bad,
     }
-    Command::Advance(target, room)
 }
 
+#[tactic(auto, unfolding(crate::specs::Commands::of_two))]
 fn of_two(word: u64, a: u64, b: u64) -> Command
     ensures { result ≡ of_two word a b }
 {
-    if word == ARM {
-        return Command::Arm(a, b);
+    match word {
+        ARM => Command::Arm(a, b),
+        CANCEL => Command::Cancel(a, b),
+        ADVANCE => advance_of(a, b),
+        WHEEL => wheel_of(a, b),
+        _ => Command::Bad,
     }
-    if word == CANCEL {
-        return Command::Cancel(a, b);
-    }
-    if word == ADVANCE {
-        return advance_of(a, b);
-    }
-    if word == WHEEL {
-        return wheel_of(a, b);
-    }
-    Command::Bad
 }
 
+#[tactic(auto, unfolding(crate::specs::Commands::of_three))]
 fn of_three(word: u64, a: u64, b: u64, c: u64) -> Command
     ensures { result ≡ of_three word a b c }
 {
-    if word == MOVE {
-        return Command::Move(a, b, c);
+    match word {
+        MOVE => Command::Move(a, b, c),
+        _ => Command::Bad,
     }
-    Command::Bad
 }
 
-// By the count first, so that a word with too few or too many numbers is bad.
-fn of_count(word: u64, count: u64, a: u64, b: u64, c: u64) -> Command
-    ensures { result ≡ of_count word count a b c }
+// By the numbers first, so that a word with too few or too many is bad.
+#[tactic(auto, unfolding(crate::specs::Commands::of_line))]
+fn of_line(line: Line) -> Command
+    ensures { result ≡ of_line line.word line.numbers }
 {
-    if count == 2 {
-        return of_two(word, a, b);
+    match line.numbers {
+        Numbers::Zero => Command::Bad,
+        Numbers::One(_) => Command::Bad,
+        Numbers::Two(a, b) => of_two(line.word, a, b),
+        Numbers::Three(a, b, c) => of_three(line.word, a, b, c),
     }
-    if count == 3 {
-        return of_three(word, a, b, c);
-    }
-    Command::Bad
 }
 
 // A line, without its line feed.
+#[tactic(auto, unfolding(crate::specs::Commands::command_of))]
 pub fn read_command(line: &[u8]) -> Command
     ensures { result ≡ command_of (read_line line.now) }
 {
     match read_line(line) {
-        Read::Bad => Command::Bad,
-        Read::Line {
-            word,
-            count,
-            a,
-            b,
-            c,
-        } => of_count(word, count, a, b, c),
+        Some(read) => of_line(read),
+        None => Command::Bad,
     }
 }
 
 // A command as the first of a run: only one that sets a wheel up is right there.
-pub fn as_first(command: Command) -> Opening
+#[tactic(auto, unfolding(crate::specs::Runs::opening_of))]
+pub fn as_first(command: Command) -> Option<Opening>
     ensures { result ≡ opening_of command }
 {
     match command {
-        Command::Wheel(n, t) => Opening::Wheel(n, t),
-        Command::Arm(_, _) => Opening::Wrong,
-        Command::Cancel(_, _) => Opening::Wrong,
-        Command::Move(_, _, _) => Opening::Wrong,
-        Command::Advance(_, _) => Opening::Wrong,
-        Command::Bad => Opening::Wrong,
+        Command::Wheel(cells, start) => Some(Opening { cells, start }),
+        _ => None,
     }
 }

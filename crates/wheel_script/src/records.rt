@@ -1,6 +1,6 @@
 // The lines of fired records: four words of an advance's output each.
 
-ghost use Rattle.std.specs.Prelude.{◌+◌, ◌*◌, ◌<◌, min, ◌≡◌, [], get_or, drop};
+ghost use Rattle.std.specs.Prelude.{◌+◌, ◌*◌, ◌<◌, ◌≡◌, get_or, drop};
 ghost use Rattle.script.specs.Answers.{Laid};
 ghost use Rattle.wheel.specs.Answers.{record_in, records_in};
 ghost use Rattle.wheel_script.specs.Texts.{fired_text, fired_lines};
@@ -12,14 +12,8 @@ fn word(records: &[u64], i: u64, f: u64) -> u64
     requires { f < 4 }
     ensures { result ≡ get_or records.now (i * 4 + f) 0 }
 {
-    if i >= records.len() as u64 {
-        return 0;
-    }
-    let j = i as usize * 4 + f as usize;
-    if j < records.len() {
-        return records[j];
-    }
-    0
+    let place = i.saturating_mul(4).saturating_add(f);
+    records.get(place as usize).copied().unwrap_or(0)
 }
 
 // The line of record i.
@@ -41,22 +35,13 @@ fn fired(out: &mut [u8], at: usize, records: &[u64], i: u64) -> usize
     )
 }
 
-// Where nothing is written ends: at the end of the room at most.
-fn start(room: usize, at: usize) -> usize
-    ensures { result ≡ min (at + 0) room }
-{
-    if at < room { at } else { room }
-}
-
 // The lines of the first k records.
 pub fn fired_lines(out: &mut [u8], at: usize, records: &[u64], k: u64) -> usize
     ensures { Laid out.old at (fired_lines (records_in k records.now)) out.new result }
 {
-    let mut end = start(out.len(), at);
-    let mut i: u64 = 0;
-    while i < k {
+    let mut end = at.min(out.len());
+    for i in 0..k {
         end = fired(out, end, records, i);
-        i += 1;
     }
     end
 }

@@ -1,15 +1,15 @@
 // A run, line by line: the first line sets the wheel up or ends the run, and every other is a command.
+#![tactic(auto, unfolding(crate::specs::Sessions::words_of))]
 
-ghost use Rattle.std.specs.Prelude.{◌≡◌, ℕ, ◌≤◌, List, length};
+ghost use Rattle.std.specs.Prelude.{◌≡◌, ℕ, ◌≤◌, List, Some, length};
 ghost use Rattle.wheel_script.specs.Sessions.{goes_on, Within};
 ghost use Rattle.script.specs.Grammar.{read_line};
 ghost use Rattle.wheel_script.specs.Commands.{command_of};
 ghost use Rattle.wheel_script.specs.Runs.{Before, opening_of, Blank, Begun};
-ghost use Rattle.wheel_script.specs.declared.commands.Opening.TheVariants as opening;
 
 use crate::answers::{bad_line, ready, refused};
 use crate::commands::{Opening, as_first, read_command};
-use wheel::head::{Dial, SetUpAnswer};
+use wheel::head::Dial;
 use wheel::setup::set_up;
 
 // Where a run stands: before its first line, with a wheel in so many of the words, or ended by its first line.
@@ -27,15 +27,15 @@ pub struct Turn {
     pub session: Session,
 }
 
-// Sets a wheel of n cells up: a bad line where the words hold fewer.
+// Sets a wheel up: a bad line where the words hold fewer cells.
 // A run opens one wheel at most, so that the lent arrays are those of an empty wheel still, and the head's are not copied into them.
-fn open(out: &mut [u8], at: usize, w: &mut [u64], n: u64, t: u64) -> Turn
-    requires { (1 ≤ n) × (n ≤ 512) }
+fn open(out: &mut [u8], at: usize, w: &mut [u64], opening: Opening) -> Turn
+    requires { (1 ≤ opening.cells) × (opening.cells ≤ 512) }
     ensures within { Within result (length out.old) (length w.old) }
     ensures told { (first last marks : List ℕ) → Blank w.old first last marks Before
-        → Begun (opening.Wheel n t) out.old at result.session w.new first last marks out.new result.end }
+        → Begun (Some opening) out.old at result.session w.new first last marks out.new result.end }
 {
-    let cells = n as usize;
+    let cells = opening.cells as usize;
     if cells > w.len() / 8 {
         return Turn {
             end: bad_line(out, at),
@@ -43,19 +43,18 @@ fn open(out: &mut [u8], at: usize, w: &mut [u64], n: u64, t: u64) -> Turn
         };
     }
     let words = cells * 8;
-    let made = set_up(&mut w[..words], t);
-    let answer = made.answer;
-    let head = made.head;
-    let dial = head.dial;
-    match answer {
-        SetUpAnswer::Refused(i) => Turn {
-            end: refused(out, at, i),
+    match set_up(&mut w[..words], opening.start) {
+        Err(cause) => Turn {
+            end: refused(out, at, cause),
             session: Session::Over,
         },
-        SetUpAnswer::Ready => Turn {
-            end: ready(out, at, n, t),
-            session: Session::Open(words, dial),
-        },
+        Ok(head) => {
+            let dial = head.dial;
+            Turn {
+                end: ready(out, at, opening.cells, opening.start),
+                session: Session::Open(words, dial),
+            }
+        }
     }
 }
 
@@ -66,8 +65,8 @@ pub fn begin(out: &mut [u8], at: usize, w: &mut [u64], line: &[u8]) -> Turn
         → Begun (opening_of (command_of (read_line line.now))) out.old at result.session w.new first last marks out.new result.end }
 {
     match as_first(read_command(line)) {
-        Opening::Wheel(n, t) => open(out, at, w, n, t),
-        Opening::Wrong => Turn {
+        Some(opening) => open(out, at, w, opening),
+        None => Turn {
             end: bad_line(out, at),
             session: Session::Over,
         },
@@ -75,12 +74,12 @@ pub fn begin(out: &mut [u8], at: usize, w: &mut [u64], line: &[u8]) -> Turn
 }
 
 // Whether there is a further line to read.
+#[tactic(auto, unfolding(crate::specs::Sessions::goes_on))]
 pub fn goes_on(session: Session) -> bool
     ensures { result ≡ goes_on session }
 {
     match session {
-        Session::Fresh => true,
-        Session::Open(_, _) => true,
+        Session::Fresh | Session::Open(_, _) => true,
         Session::Over => false,
     }
 }

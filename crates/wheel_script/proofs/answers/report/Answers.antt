@@ -1,0 +1,6 @@
+-- The records' lines, and then the clock's.
+use Rattle.script.proofs.Laying.{laid-join}
+use Rattle.wheel_script.proofs.answers.report.Goals as goal
+
+pub returns : goal.returns
+returns c = laid-join _ _ _ _ _ _ _ _ c.fired_lines-next.ensures c.clock.ensures
