@@ -20,12 +20,7 @@ fn fields_blank(w: &[u64], m: u64, c: u64, low: u64, high: u64) -> bool
     requires { (low ≤ high) × (high ≤ 8) × (all_below low (field_test w.now m c) ≡ true) }
     ensures { result ≡ all_below high (field_test w.now m c) }
 {
-    for f in low..high {
-        if !clean(w, m, c, f) {
-            return false;
-        }
-    }
-    true
+    (low..high).all(|f| clean(w, m, c, f))
 }
 
 // Whether those of the first four fields that are in the mask m are zero in cell c. An entry uses all four, so its mask has none of them:

@@ -1,4 +1,5 @@
-// Whether tickets and order numbers differ, by sorting: the answer where the tables gave up.
+// Whether tickets and order numbers differ, by sorting: the answer where the tables gave up. What the private functions require of sizes
+// and rooms, each of its own call, `sorted_differ` tests or makes.
 
 ghost use Rattle.std.specs.Prelude.{◌+◌, ◌≤◌, ◌<◌, cond, ◌&&◌, ◌++◌, ◌≡◌, leb, length, drop, set};
 ghost use Rattle.cells.specs.Rules.{in_use};
@@ -8,7 +9,8 @@ ghost use Rattle.cell_sort.specs.Sorted.{sort_by, cell_leq, neighbours_differ};
 use cell_sort::sort::{all_differ, sort};
 use cells::words::get;
 
-// Notes cell c at m if it is in use, and says where the next goes.
+// Notes cell c at m if it is in use, and says where the next goes. The cell is cast and not converted: its bound is at hand, and `TryFrom`
+// would have an arm that cannot happen.
 #[tactic(auto, unfolding(cells::specs::Rules::in_use, cells::specs::Stack::is_free))]
 fn note(w: &[u64], c: u64, m: usize, a: &mut [u16]) -> usize
     requires { (c < 65536) × (m < length a.old) }
@@ -22,7 +24,8 @@ fn note(w: &[u64], c: u64, m: usize, a: &mut [u16]) -> usize
     m + 1
 }
 
-// Notes the cells in use among the first n at the front of a, and says how many they are.
+// Notes the cells in use among the first n at the front of a, and says how many they are: room that is lent, and how many, since memory is
+// fixed and nothing is on a heap.
 fn gather(w: &[u64], n: u64, a: &mut [u16]) -> usize
     requires { (n ≤ length a.old) × (n ≤ 4096) }
     ensures count { result ≡ length (used_below w.now n) }

@@ -1,4 +1,5 @@
-// One pass over the cells: those in use are held to the rules of an entry and put into the tables, the free ones are counted.
+// One pass over the cells: those in use are held to the rules of an entry and put into the tables, the free ones are counted. What the
+// private functions require of the number of cells, `swept` tests.
 
 ghost use Rattle.std.specs.Prelude.{◌≤◌, ◌<◌};
 ghost use Rattle.audits.specs.Sweeping.{Visits, Swept};

@@ -1,5 +1,6 @@
 // Tables of cells by their tickets and by their order numbers, which tell in one pass that these differ. A table may give up: then it says
-// nothing, and something slower decides.
+// nothing, and something slower decides. A cell below 4,096 is cast into a slot and not converted: `TryFrom` would have an arm that cannot
+// happen.
 
 ghost use Rattle.std.specs.Prelude.{◌<◌, ◌≡◌};
 ghost use Rattle.audits.specs.Tables.{evenly as evenly_of, scattered as scattered_of, spread_of, start_of, Looks, Enters, EntersBoth};

@@ -41,6 +41,10 @@ fresh_words w = memory (fresh_word (length w / 8)) 0 (length w / 8) ++ drop (len
 unfoldable pub set_up_words : List ℕ → List ℕ
 set_up_words w = cond (wrong_size (length w / 8)) w (fresh_words w)
 
+-- "With L words there are N = floor(L/8) cells", if that is a size that there may be.
+unfoldable pub cells_answer : List ℕ → Result ℕ Refusal
+cells_answer w = cond (wrong_size (length w / 8)) (Err refusal.BadSize) (Ok (length w / 8))
+
 -- "With L words there are N = floor(L/8) cells"; "A counter starts at 1"; "cell 0 is on top".
 unfoldable pub set_up_answer : List ℕ → Result Store Refusal
 set_up_answer w =

@@ -4,6 +4,7 @@ ghost use Rattle.std.specs.Prelude.{◌≡◌, ◌/◌, ◌%◌};
 ghost use Rattle.cells.specs.Store.{
   fresh_word,
   fresh_words,
+  cells_answer,
   set_up_words,
   set_up_answer,
   holds_ticket,
@@ -61,19 +62,28 @@ fn write_fresh(w: &mut [u64])
     }
 }
 
-// Sets a store up in the lent words, refused unless there are 1 to 4096 cells.
-#[tactic(auto, unfolding(crate::specs::Store::set_up_answer, crate::specs::Store::set_up_words, crate::specs::Store::wrong_size))]
-pub fn set_up(w: &mut [u64]) -> Result<Store, Refusal>
-    ensures answer { result ≡ set_up_answer w.old }
-    ensures words { w.new ≡ set_up_words w.old }
+// How many whole cells the lent words have, refused unless there are 1 to 4096. Each set-up asks it first.
+#[tactic(auto, unfolding(crate::specs::Store::cells_answer, crate::specs::Store::wrong_size))]
+pub fn cells_in(w: &[u64]) -> Result<u64, Refusal>
+    ensures { result ≡ cells_answer w.now }
 {
     let n = w.len() / 8;
     if n == 0 || n > 4096 {
         return Err(Refusal::BadSize);
     }
+    Ok(n as u64)
+}
+
+// Sets a store up in the lent words, refused unless there are 1 to 4096 cells.
+#[tactic(auto, unfolding(crate::specs::Store::set_up_answer, crate::specs::Store::set_up_words, crate::specs::Store::cells_answer))]
+pub fn set_up(w: &mut [u64]) -> Result<Store, Refusal>
+    ensures answer { result ≡ set_up_answer w.old }
+    ensures words { w.new ≡ set_up_words w.old }
+{
+    let cells = cells_in(w)?;
     write_fresh(w);
     Ok(Store {
-        cells: n as u64,
+        cells,
         free: 0,
         counter: 1,
     })
@@ -119,7 +129,7 @@ impl Store {
         ensures store { self.new ≡ draw_store self.old }
     {
         let number = self.counter;
-        if number == 18446744073709551615 {
+        if number == u64::MAX {
             return Err(Refusal::Spent);
         }
         self.counter = number + 1;

@@ -1,4 +1,5 @@
 // Lent memory as words, eight to a cell, read and written by cell and field: total, so that nothing here has a `requires`.
+// A field is a number and no enum: the definitions count fields, the audits go over them by ranges and masks, and docs/LAYOUT.md names them.
 
 ghost use Rattle.std.specs.Prelude.{◌≡◌};
 ghost use Rattle.cells.specs.Words.{word, put_word};

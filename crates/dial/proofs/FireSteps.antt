@@ -4,29 +4,32 @@ use Prim.Native.Nat.{ℕ, zero, suc, ◌+◌, ◌-◌, ◌*◌, ◌/◌, ◌<◌
 use native.Mathlib.Numerals.{add-one}
 use native.Mathlib.Omega.{arith}
 use mathlib.Core.Bool.{Bool, true, false, cond}
-use mathlib.Core.List.{List, [], ◌∷◌}
+use mathlib.Core.List.{List, [], ◌∷◌, append-nil}
 use mathlib.Core.Path.{◌≡◌, refl, sym, ap}
 use lib.Dec.{eqb}
-use lib.ListN.{length}
-use lib.Seq.{drop-drop}
+use lib.ListN.{length, take, drop, length-drop, drop_of_length-le}
+use lib.Seq.{take_all, drop-drop}
 use borrow.Author.Tests.{eq-eqb, ne_eqb}
-use borrow.Rule.Slice.PartMut.{put_mid}
+use borrow.Rule.Slice.PartMut.{put_mid, mid_of}
 use Rattle.cells.specs.Stack.{no_cell}
 use Rattle.cells.specs.Words.{word}
 use Rattle.cells.specs.Store.{release_store}
 use Rattle.dial.specs.Turns.{State, recorded, fire, hand_out, room}
 use Rattle.dial.specs.Lent.{handed_out}
 
--- A record of four words is copied in behind n records.
-pub recorded-is : (w out B : List ℕ) (n c k e x : ℕ) → B ≡ c ∷ k ∷ e ∷ x ∷ []
+-- The output behind n records is lent and given back as B, with a record at its start.
+pub recorded-is : (w out B : List ℕ) (n c k e x : ℕ) → B ≡ c ∷ k ∷ e ∷ x ∷ drop 4 (mid_of (n * 4) (length out - n * 4) out)
     → k ≡ word w c 0
     → e ≡ word w c 2
     → x ≡ word w c 3
-    → put_mid (n * 4) (n * 4 + 4 - n * 4) out B ≡ recorded out n c (word w c 0) (word w c 2) (word w c 3)
+    → put_mid (n * 4) (length out - n * 4) out B ≡ recorded out n c (word w c 0) (word w c 2) (word w c 3)
 unfolding recorded
 recorded-is w out B n c k e x h f g i =
-    let four : n * 4 + 4 - n * 4 ≡ 4 = omega arith in
-    rw (four, h, drop-drop 4 (n * 4) out, f, g, i)
+    let whole : take (length out - n * 4) (drop (n * 4) out) ≡ drop (n * 4) out =
+    take_all (length out - n * 4) (drop (n * 4) out) (simp length-drop (omega arith)) in
+    let none : drop (length out - n * 4) (drop (n * 4) out) ≡ [] =
+    drop_of_length-le (drop (n * 4) out) {i = length out - n * 4} (simp length-drop (omega arith)) in
+    rw (h, whole, none, append-nil (drop 4 (drop (n * 4) out)), drop-drop 4 (n * 4) out, f, g, i)
 
 -- What is fired is one record more.
 pub one-fired : (z : State) {y : State} → y ≡ fire z → y.fired ≡ z.fired + 1

@@ -27,7 +27,7 @@ use Rattle.dial.proofs.FireSteps.{hand-keeps}
 
 -- The turn at another clock.
 abbrev pub at_clock : Turn → ℕ → Turn
-at_clock t clock = record { clock = clock; due = t.due; store = t.store; fired = t.fired; moves = t.moves }
+at_clock t clock = record { dial = record { clock = clock; due = t.dial.due; store = t.dial.store }; fired = t.fired; moves = t.moves }
 
 -- The first marked slot is one of the slots, or there is none.
 pub first-most : (marks : List ℕ) (i : ℕ) → i ≡ first_marked marks → i ≤ due_list
@@ -48,11 +48,11 @@ module _ (w f l m : List ℕ) (t : Turn) (out : List ℕ) where
   pub entered-is : (tick i : ℕ) {e : Ends} {x : Lists} {r : Turn} {y : State} → i < due_list → e ≡ ends_of (lent w f l m) i
       → x ≡ empty_slot (lent w f l m) i
       → r ≡ at_clock t tick
-      → y ≡ walk r.store.cells e.first (state_of x.words x.first x.last x.marks out r)
+      → y ≡ walk r.dial.store.cells e.first (state_of x.words x.first x.last x.marks out r)
       → y ≡ enter tick i (state_of w f l m out t)
   unfolding enter turned ends_at ends_of
   entered-is tick i h a b q p =
-      p ∙ rw (q, a, empty-beside w f l m t.due i b, ne_eqb i due_list (omega arith))
+      p ∙ rw (q, a, empty-beside w f l m t.dial.due i b, ne_eqb i due_list (omega arith))
 
   -- No wake tick is left.
   module _ (target : ℕ) {r : Turn} (a : r ≡ at_clock t target) where
@@ -60,21 +60,21 @@ module _ (w f l m : List ℕ) (t : Turn) (out : List ℕ) where
     unfolding onward turned ending_of
     onward-none h = rw (a, eq-eqb (first_marked m) due_list h)
 
-    pub onward-later : {i tick : ℕ} → i ≡ first_marked m → i < due_list → tick ≡ wake_answer t.clock (i / 64) (i % 64) → target < tick
+    pub onward-later : {i tick : ℕ} → i ≡ first_marked m → i < due_list → tick ≡ wake_answer t.dial.clock (i / 64) (i % 64) → target < tick
         → ended_of w f l m out (record { turn = r; ending = Some how.Done }) ≡ onward target (state_of w f l m out t)
     unfolding onward turned ending_of
     onward-later {i} {tick} e h b less =
-        rw (a, ← e, ← wake-at t.clock i tick h b, ne_eqb i due_list (omega arith), lt-ltb target tick less)
+        rw (a, ← e, ← wake-at t.dial.clock i tick h b, ne_eqb i due_list (omega arith), lt-ltb target tick less)
 
   -- The next wake tick is entered.
   pub onward-enters : (target i : ℕ) {u g k n : List ℕ} {r : Turn} {tick : ℕ} → i ≡ first_marked m → i < due_list
-      → tick ≡ wake_answer t.clock (i / 64) (i % 64)
+      → tick ≡ wake_answer t.dial.clock (i / 64) (i % 64)
       → tick ≤ target
       → state_of u g k n out r ≡ enter tick i (state_of w f l m out t)
       → ended_of u g k n out (record { turn = r; ending = None }) ≡ onward target (state_of w f l m out t)
   unfolding onward ending_of
   onward-enters target i {tick = tick} e h b least a =
-      rw (a, ← e, ← wake-at t.clock i tick h b, ne_eqb i due_list (omega arith), le-ltb target tick least)
+      rw (a, ← e, ← wake-at t.dial.clock i tick h b, ne_eqb i due_list (omega arith), le-ltb target tick least)
 
 -- One turn, by whether something is due behind the last record.
 module _ (target : ℕ) (z y : State) (h : y ≡ handed_out z) where

@@ -20,9 +20,9 @@ lists_of w first last marks due = record { words = w; first = first; last = last
 abbrev pub state_of : List ℕ → List ℕ → List ℕ → List ℕ → List ℕ → Turn → State
 state_of w first last marks out t =
     record {
-      lists = lists_of w first last marks t.due;
-      clock = t.clock;
-      store = t.store;
+      lists = lists_of w first last marks t.dial.due;
+      clock = t.dial.clock;
+      store = t.dial.store;
       out = out;
       fired = t.fired;
       moves = t.moves;

@@ -1,4 +1,5 @@
-// A wheel's lists by number: 384 slots, level by level, and the due list as number 384. No enum: `list_of`, `join_at` and `Stand` of the specs count them.
+// A wheel's lists by number: 384 slots, level by level, and the due list as number 384. No enum: `list_of`, `join_at` and `Stand` of the
+// specs count them.
 
 ghost use Rattle.std.specs.Prelude.{◌≡◌};
 ghost use Rattle.slots.specs.Stand.{join_at, leave_at};
@@ -33,7 +34,8 @@ pub fn join_at(lists: &mut Lists, due: Ends, i: u64, c: u64) -> Ends
     due
 }
 
-// Cell c leaves list i, and says the ends of the due list then.
+// Cell c leaves list i, and says the ends of the due list then. With `join_at` it shares the frame alone: a step that is handed in would need
+// the contract of both.
 pub fn leave_at(lists: &mut Lists, due: Ends, i: u64, c: u64) -> Ends
     ensures slices { same_slices lists.old lists.new }
     ensures lists { lists_in lists.new result ≡ leave_at (lists_in lists.old due) i c }

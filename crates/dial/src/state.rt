@@ -13,12 +13,10 @@ pub struct Dial {
     pub store: Store,
 }
 
-// The clock, the due list's ends, the cell store's head, the records in the output, and the moves made.
+// The numbers of the head as far as an advance has come, the records in the output, and the moves made.
 #[derive(Clone, Copy)]
 pub struct Turn {
-    pub clock: u64,
-    pub due: Ends,
-    pub store: Store,
+    pub dial: Dial,
     pub fired: u64,
     pub moves: u64,
 }
@@ -39,7 +37,11 @@ pub struct TurnsEnded {
 
 // The turn at another clock.
 pub fn at_clock(t: Turn, clock: u64) -> Turn
-    ensures { result ≡ record { clock = clock; due = t.due; store = t.store; fired = t.fired; moves = t.moves } }
+    ensures { result
+        ≡ record { dial = record { clock = clock; due = t.dial.due; store = t.dial.store }; fired = t.fired; moves = t.moves } }
 {
-    Turn { clock, ..t }
+    Turn {
+        dial: Dial { clock, ..t.dial },
+        ..t
+    }
 }

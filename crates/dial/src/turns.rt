@@ -1,6 +1,7 @@
-// An advance in lent words: what is due is handed out, the next wake tick is entered, and so on. Where a wake tick is entered its slot is emptied, and
-// each of its cells goes to the list of its deadline. A slice of the lists is read through a reborrow of its own: only so is it known that the read
-// leaves it as it was.
+// An advance in lent words: what is due is handed out, the next wake tick is entered, and so on. Where a wake tick is entered its slot is
+// emptied, and each of its cells goes to the list of its deadline. What the private functions require of the moves is about their own turn;
+// `advance_turns` tests it. A slice of the lists is read through a reborrow of its own: only so is
+// it known that the read leaves it as it was.
 
 ghost use Rattle.std.specs.Prelude.{ℕ, ◌+◌, ◌≤◌, ◌<◌, cond, List, ◌≡◌, eqb};
 ghost use Rattle.slots.specs.Stand.{due_list};
@@ -10,7 +11,7 @@ ghost use Rattle.dial.specs.Lent.{state_in, ended_in, onward as onward_of, once 
 
 use crate::firing::hand_out;
 use crate::lists::{join_at, list_of};
-use crate::state::{HowEnded, Turn, TurnsEnded, at_clock};
+use crate::state::{Dial, HowEnded, Turn, TurnsEnded, at_clock};
 use cells::words::get;
 use places::wake_tick;
 use slots::slots::{Lists, first_marked};
@@ -34,9 +35,12 @@ fn refile(lists: &mut Lists, t: Turn, c: u64) -> Turn
     ensures state { (out : List ℕ) → state_in lists.new out result ≡ refile_of c (state_in lists.old out t) }
 {
     let words = &mut *lists.words;
-    let i = list_of(t.clock, get(words, c, 2));
+    let i = list_of(t.dial.clock, get(words, c, 2));
     Turn {
-        due: join_at(lists, t.due, i, c),
+        dial: Dial {
+            due: join_at(lists, t.dial.due, i, c),
+            ..t.dial
+        },
         moves: counted(t.moves, i),
         ..t
     }
@@ -44,13 +48,13 @@ fn refile(lists: &mut Lists, t: Turn, c: u64) -> Turn
 
 // The slot whose first cell is c is walked, for at most as many cells as there are.
 fn walk(lists: &mut Lists, t: Turn, c: u64) -> Turn
-    requires { t.moves + t.store.cells < 18446744073709551615 }
+    requires { t.moves + t.dial.store.cells < 18446744073709551615 }
     ensures slices { same_slices lists.old lists.new }
-    ensures state { (out : List ℕ) → state_in lists.new out result ≡ walk_of t.store.cells c (state_in lists.old out t) }
+    ensures state { (out : List ℕ) → state_in lists.new out result ≡ walk_of t.dial.store.cells c (state_in lists.old out t) }
 {
     let mut turn = t;
     let mut at = c;
-    for _ in 0..t.store.cells {
+    for _ in 0..t.dial.store.cells {
         if at == 4096 {
             return turn;
         }
@@ -62,9 +66,10 @@ fn walk(lists: &mut Lists, t: Turn, c: u64) -> Turn
     turn
 }
 
-// Wake tick tick of slot i is entered: the slot is emptied, and walked.
+// Wake tick tick of slot i is entered: the slot is emptied, and walked. Its first cell is not the answer of `empty_slot`: that is 4096 where
+// one of the arrays is too short for slot i, and the definition `enter` reads the ends also there.
 fn enter(lists: &mut Lists, t: Turn, tick: u64, i: u64) -> Turn
-    requires { (i < due_list) × (t.moves + t.store.cells < 18446744073709551615) }
+    requires { (i < due_list) × (t.moves + t.dial.store.cells < 18446744073709551615) }
     ensures slices { same_slices lists.old lists.new }
     ensures state { (out : List ℕ) → state_in lists.new out result ≡ enter_of tick i (state_in lists.old out t) }
 {
@@ -75,13 +80,13 @@ fn enter(lists: &mut Lists, t: Turn, tick: u64, i: u64) -> Turn
 
 // Nothing is due: the next wake tick is entered, or none is left up to the target.
 fn onward(lists: &mut Lists, t: Turn, target: u64) -> TurnsEnded
-    requires { t.moves + t.store.cells < 18446744073709551615 }
+    requires { t.moves + t.dial.store.cells < 18446744073709551615 }
     ensures slices { same_slices lists.old lists.new }
     ensures ended { (out : List ℕ) → ended_in lists.new out result ≡ onward_of target (state_in lists.old out t) }
 {
     let marks = &mut *lists.marks;
     if let Some(i) = first_marked(marks) {
-        let tick = wake_tick(t.clock, i / 64, i % 64);
+        let tick = wake_tick(t.dial.clock, i / 64, i % 64);
         if tick <= target {
             return TurnsEnded {
                 turn: enter(lists, t, tick, i),
@@ -97,12 +102,12 @@ fn onward(lists: &mut Lists, t: Turn, target: u64) -> TurnsEnded
 
 // One turn.
 fn once(lists: &mut Lists, out: &mut [u64], t: Turn, target: u64) -> TurnsEnded
-    requires { t.moves + t.store.cells < 18446744073709551615 }
+    requires { t.moves + t.dial.store.cells < 18446744073709551615 }
     ensures slices { same_slices lists.old lists.new }
     ensures ended { ended_in lists.new out.new result ≡ once_of target (state_in lists.old out.old t) }
 {
     let handed = hand_out(lists.words, out, t);
-    if handed.due.first == 4096 {
+    if handed.dial.due.first == 4096 {
         return onward(lists, handed, target);
     }
     TurnsEnded {
@@ -113,14 +118,14 @@ fn once(lists: &mut Lists, out: &mut [u64], t: Turn, target: u64) -> TurnsEnded
 
 // As many turns as can be needed.
 fn run(lists: &mut Lists, out: &mut [u64], t: Turn, target: u64) -> TurnsEnded
-    requires { (t.store.cells ≤ 4096) × (t.moves ≤ 4294967295) }
+    requires { (t.dial.store.cells ≤ 4096) × (t.moves ≤ 4294967295) }
     ensures slices { same_slices lists.old lists.new }
     ensures ended { ended_in lists.new out.new result
         ≡ turns_of (turns_for (state_in lists.old out.old t)) target
         (state_in lists.old out.old t) }
 {
     let mut turn = t;
-    for _ in 0..t.store.cells * 6 + 1 {
+    for _ in 0..t.dial.store.cells * 6 + 1 {
         let ended = once(lists, out, turn, target);
         if ended.ending.is_some() {
             return ended;
@@ -136,7 +141,7 @@ pub fn advance_turns(lists: &mut Lists, out: &mut [u64], t: Turn, target: u64) -
     ensures slices { same_slices lists.old lists.new }
     ensures ended { ended_in lists.new out.new result ≡ advance_turns target (state_in lists.old out.old t) }
 {
-    if t.store.cells > 4096 || t.moves > 4294967295 {
+    if t.dial.store.cells > 4096 || t.moves > 4294967295 {
         return TurnsEnded {
             turn: t,
             ending: None,

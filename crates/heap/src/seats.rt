@@ -79,15 +79,6 @@ pub fn look(w: &[u64], p: u64) -> Seat
     seat_with(w, p, get(w, p, 6))
 }
 
-// The parent's position of p.
-#[tactic(auto, unfolding(meaning::specs::Heap::parent))]
-fn parent_of(d: u64, p: u64) -> u64
-    requires { (1 ≤ d) × (1 ≤ p) }
-    ensures { result ≡ parent d p }
-{
-    (p - 1) / d
-}
-
 // The earlier of two, field by field: `if b.is_before(a) { b } else { a }` is a branch to the compiler, and a call of a queue of arity 2, 4
 // or 8 then takes 1.05 to 1.38 times as long.
 fn sooner(a: Seat, b: Seat) -> Seat
@@ -115,117 +106,155 @@ fn earliest_among(w: &[u64], first: u64, m: u64) -> Seat
     best
 }
 
-// The earliest of the d positions from first on. At the usual arities the number is one that the compiler knows, so that it leaves no loop:
-// it picks, and does not branch.
-fn earliest_of(w: &[u64], d: u64, first: u64) -> Seat
-    requires { (1 ≤ d) × (d ≤ 8) × (first + d ≤ 4096) }
-    ensures { result ≡ soonest w.now (seat_at w.now first) (first + 1) (d - 1) }
-{
-    match d {
-        2 => earliest_among(w, first, 2),
-        4 => earliest_among(w, first, 4),
-        8 => earliest_among(w, first, 8),
-        _ => earliest_among(w, first, d),
-    }
+// A heap of n entries and of arity d, as there may be: `of` tests once what no method then asks again.
+#[derive(Clone, Copy)]
+struct Shape {
+    d: u64,
+    n: u64,
+    ghost some: { 1 ≤ d },
+    ghost narrow: { d ≤ 8 },
+    ghost fits: { n ≤ 4096 },
 }
 
-// The earliest child whose positions begin at first, in a heap of n.
-#[tactic(auto, unfolding(crate::specs::Seats::first_child))]
-fn earliest_child(w: &[u64], d: u64, n: u64, first: u64) -> Seat
-    requires { (1 ≤ d) × (d ≤ 8) × (first < n) × (n ≤ 4096) }
-    ensures { result ≡ first_child d n w.now first }
-{
-    if n < first + d {
-        return earliest_among(w, first, n - first);
+impl Shape {
+    // The heap of n with a position p, where it is of an arity and a size that there may be.
+    #[tactic(auto, unfolding(crate::specs::Seats::in_reach))]
+    fn of(d: u64, n: u64, p: u64) -> Option<Self>
+        ensures { MatchOption result (in_reach d n p ≡ false) (λ h. (in_reach d n p ≡ true) × (h.d ≡ d) × (h.n ≡ n) × (p < n)) }
+    {
+        if (1..=8).contains(&d) && n <= 4096 && p < n {
+            Some(Self { d, n })
+        } else {
+            None
+        }
     }
-    earliest_of(w, d, first)
-}
 
-// The parent of the hole to which an entry is carried, if the entry is before it.
-#[tactic(auto, unfolding(crate::specs::Seats::may_rise))]
-fn later_parent(w: &[u64], d: u64, s: Seat) -> Option<Seat>
-    requires { 1 ≤ d }
-    ensures { MatchOption result (may_rise d s.key s.order s.position w.now ≡ false)
-        (λ q. (may_rise d s.key s.order s.position w.now ≡ true) × (q ≡ seat_at w.now (parent d s.position))) }
-{
-    if s.position == 0 {
-        return None;
+    // The parent's position of p.
+    #[tactic(auto, unfolding(meaning::specs::Heap::parent))]
+    fn parent_of(self, p: u64) -> u64
+        requires { 1 ≤ p }
+        ensures { result ≡ parent self.d p }
+    {
+        (p - 1) / self.d
     }
-    let q = look(w, parent_of(d, s.position));
-    if s.is_before(q) { Some(q) } else { None }
-}
 
-// The earliest child of the hole to which an entry is carried in a heap of n, if the child is before it.
-#[tactic(auto, unfolding(crate::specs::Seats::may_sink))]
-fn sooner_child(w: &[u64], d: u64, n: u64, s: Seat) -> Option<Seat>
-    requires { (1 ≤ d) × (d ≤ 8) × (s.position < n) × (n ≤ 4096) }
-    ensures { MatchOption result (may_sink d n s.key s.order s.position w.now ≡ false)
-        (λ q. (may_sink d n s.key s.order s.position w.now ≡ true) × (q ≡ first_child d n w.now (d * s.position + 1))) }
-{
-    let first = d * s.position + 1;
-    if first >= n {
-        return None;
+    // The parent of the hole to which an entry is carried, if the entry is before it.
+    #[tactic(auto, unfolding(crate::specs::Seats::may_rise))]
+    fn later_parent(self, w: &[u64], s: Seat) -> Option<Seat>
+        ensures { MatchOption result (may_rise self.d s.key s.order s.position w.now ≡ false)
+            (λ q. (may_rise self.d s.key s.order s.position w.now ≡ true) × (q ≡ seat_at w.now (parent self.d s.position))) }
+    {
+        if s.position == 0 {
+            return None;
+        }
+        let q = look(w, self.parent_of(s.position));
+        if s.is_before(q) { Some(q) } else { None }
     }
-    let q = earliest_child(w, d, n, first);
-    if q.is_before(s) { Some(q) } else { None }
-}
 
-// Carries an entry up from the hole where it is, and says how many it passed.
-fn rise(w: &mut [u64], d: u64, mut s: Seat) -> u64
-    requires { (1 ≤ d) × (s.position ≤ 4096) }
-    ensures words { w.new ≡ (rise_walk d s.key s.order s.cell s.position s.position 0 w.old).words }
-    ensures steps { result ≡ (rise_walk d s.key s.order s.cell s.position s.position 0 w.old).steps }
-    ensures few { result ≤ s.position }
-{
-    let mut steps = 0;
-    while let Some(q) = later_parent(w, d, s) {
-        take_seat(w, s.position, q.cell);
-        s.position = q.position;
-        steps += 1;
+    // The earliest of the d positions from first on. At the usual arities the number is one that the compiler knows, so that it leaves no
+    // loop: it picks, and does not branch.
+    fn earliest_of(self, w: &[u64], first: u64) -> Seat
+        requires { first + self.d ≤ self.n }
+        ensures { result ≡ soonest w.now (seat_at w.now first) (first + 1) (self.d - 1) }
+    {
+        match self.d {
+            2 => earliest_among(w, first, 2),
+            4 => earliest_among(w, first, 4),
+            8 => earliest_among(w, first, 8),
+            d => earliest_among(w, first, d),
+        }
     }
-    take_seat(w, s.position, s.cell);
-    steps
-}
 
-// Carries an entry down from the hole where it is in a heap of n, and says how many it passed. One function with the step handed in is no
-// plainer: a rise ends at the root and a sink at n, so that each step would have to promise a bound of its own.
-fn sink(w: &mut [u64], d: u64, n: u64, mut s: Seat) -> u64
-    requires { (1 ≤ d) × (d ≤ 8) × (s.position < n) × (n ≤ 4096) }
-    ensures words { w.new ≡ (sink_walk d n s.key s.order s.cell n s.position 0 w.old).words }
-    ensures steps { result ≡ (sink_walk d n s.key s.order s.cell n s.position 0 w.old).steps }
-    ensures few { result < n }
-{
-    let mut steps = 0;
-    while let Some(q) = sooner_child(w, d, n, s) {
-        take_seat(w, s.position, q.cell);
-        s.position = q.position;
-        steps += 1;
+    // The earliest child whose positions begin at first.
+    #[tactic(auto, unfolding(crate::specs::Seats::first_child))]
+    fn earliest_child(self, w: &[u64], first: u64) -> Seat
+        requires { first < self.n }
+        ensures { result ≡ first_child self.d self.n w.now first }
+    {
+        if self.n < first + self.d {
+            return earliest_among(w, first, self.n - first);
+        }
+        self.earliest_of(w, first)
     }
-    take_seat(w, s.position, s.cell);
-    steps
-}
 
-// Carries cell c to its place from the hole at p of a heap of n, up or else down, and says how many it passed.
-#[tactic(auto, unfolding(crate::specs::Seats::settle_walk))]
-fn settle(w: &mut [u64], d: u64, n: u64, p: u64, c: u64) -> u64
-    requires { (1 ≤ d) × (d ≤ 8) × (p < n) × (n ≤ 4096) }
-    ensures words { w.new ≡ (settle_walk d n p c w.old).words }
-    ensures steps { result ≡ (settle_walk d n p c w.old).steps }
-    ensures few { result < n }
-{
-    let s = seat_with(w, p, c);
-    if later_parent(w, d, s).is_some() {
-        return rise(w, d, s);
+    // The earliest child of the hole to which an entry is carried, if the child is before it.
+    #[tactic(auto, unfolding(crate::specs::Seats::may_sink))]
+    fn sooner_child(self, w: &[u64], s: Seat) -> Option<Seat>
+        requires { s.position < self.n }
+        ensures { MatchOption result (may_sink self.d self.n s.key s.order s.position w.now ≡ false)
+            (λ q. (may_sink self.d self.n s.key s.order s.position w.now ≡ true)
+            × (q ≡ first_child self.d self.n w.now (self.d * s.position + 1))) }
+    {
+        let first = self.d * s.position + 1;
+        if first >= self.n {
+            return None;
+        }
+        let q = self.earliest_child(w, first);
+        if q.is_before(s) { Some(q) } else { None }
     }
-    sink(w, d, n, s)
-}
 
-// Whether a position p is in a heap of n, of an arity and a size that there may be.
-#[tactic(auto, unfolding(crate::specs::Seats::in_reach))]
-fn in_reach(d: u64, n: u64, p: u64) -> bool
-    ensures { result ≡ in_reach d n p }
-{
-    (1..=8).contains(&d) && n <= 4096 && p < n
+    // Carries an entry up from the hole where it is, and says how many it passed.
+    fn rise(self, w: &mut [u64], mut s: Seat) -> u64
+        requires { s.position < self.n }
+        ensures words { w.new ≡ (rise_walk self.d s.key s.order s.cell s.position s.position 0 w.old).words }
+        ensures steps { result ≡ (rise_walk self.d s.key s.order s.cell s.position s.position 0 w.old).steps }
+        ensures few { result < self.n }
+    {
+        let mut steps = 0;
+        while let Some(q) = self.later_parent(w, s) {
+            take_seat(w, s.position, q.cell);
+            s.position = q.position;
+            steps += 1;
+        }
+        take_seat(w, s.position, s.cell);
+        steps
+    }
+
+    // Carries an entry down from the hole where it is, and says how many it passed. One function with the step handed in is no plainer:
+    // a rise ends at the root and a sink at n, so that each step would have to promise a bound of its own.
+    fn sink(self, w: &mut [u64], mut s: Seat) -> u64
+        requires { s.position < self.n }
+        ensures words { w.new ≡ (sink_walk self.d self.n s.key s.order s.cell self.n s.position 0 w.old).words }
+        ensures steps { result ≡ (sink_walk self.d self.n s.key s.order s.cell self.n s.position 0 w.old).steps }
+        ensures few { result < self.n }
+    {
+        let mut steps = 0;
+        while let Some(q) = self.sooner_child(w, s) {
+            take_seat(w, s.position, q.cell);
+            s.position = q.position;
+            steps += 1;
+        }
+        take_seat(w, s.position, s.cell);
+        steps
+    }
+
+    // Carries cell c to its place from the hole at p, up or else down, and says how many it passed.
+    #[tactic(auto, unfolding(crate::specs::Seats::settle_walk))]
+    fn settle(self, w: &mut [u64], p: u64, c: u64) -> u64
+        requires { p < self.n }
+        ensures words { w.new ≡ (settle_walk self.d self.n p c w.old).words }
+        ensures steps { result ≡ (settle_walk self.d self.n p c w.old).steps }
+        ensures few { result < self.n }
+    {
+        let s = seat_with(w, p, c);
+        if self.later_parent(w, s).is_some() {
+            return self.rise(w, s);
+        }
+        self.sink(w, s)
+    }
+
+    // The last entry fills position p, which is not the last.
+    #[tactic(auto, unfolding(crate::specs::Seats::refill_walk))]
+    fn refill(self, w: &mut [u64], p: u64) -> u64
+        requires { p + 1 < self.n }
+        ensures words { w.new ≡ (refill_walk self.d self.n p w.old).words }
+        ensures steps { result ≡ (refill_walk self.d self.n p w.old).steps }
+    {
+        let n = self.n - 1;
+        let c = get(w, n, 6);
+        put(w, n, 6, 0);
+        Self { d: self.d, n }.settle(w, p, c) + 1
+    }
 }
 
 // Cell c enters a heap of n at its end, and rises; says how many entries moved. Nothing is done where there is no such heap.
@@ -234,23 +263,13 @@ pub fn enter(w: &mut [u64], d: u64, n: u64, c: u64) -> u64
     ensures words { w.new ≡ (enter_walk d n c w.old).words }
     ensures steps { result ≡ (enter_walk d n c w.old).steps }
 {
-    if n < 4096 && in_reach(d, n + 1, n) {
+    if n < 4096
+        && let Some(heap) = Shape::of(d, n + 1, n)
+    {
         let s = seat_with(w, n, c);
-        return rise(w, d, s);
+        return heap.rise(w, s);
     }
     0
-}
-
-// The last entry of a heap of n fills position p, where n is at least 2 and p is not the last.
-#[tactic(auto, unfolding(crate::specs::Seats::refill_walk))]
-fn refill(w: &mut [u64], d: u64, n: u64, p: u64) -> u64
-    requires { (1 ≤ d) × (d ≤ 8) × (p + 1 < n) × (n ≤ 4096) }
-    ensures words { w.new ≡ (refill_walk d n p w.old).words }
-    ensures steps { result ≡ (refill_walk d n p w.old).steps }
-{
-    let c = get(w, n - 1, 6);
-    put(w, n - 1, 6, 0);
-    settle(w, d, n - 1, p, c) + 1
 }
 
 // Position p of a heap of n is left by its entry, and filled by the last; says how many entries moved. Nothing is done where there is no
@@ -260,14 +279,14 @@ pub fn vacate(w: &mut [u64], d: u64, n: u64, p: u64) -> u64
     ensures words { w.new ≡ (vacate_walk d n p w.old).words }
     ensures steps { result ≡ (vacate_walk d n p w.old).steps }
 {
-    if !in_reach(d, n, p) {
+    let Some(heap) = Shape::of(d, n, p) else {
         return 0;
-    }
+    };
     if p == n - 1 {
         put(w, p, 6, 0);
         return 0;
     }
-    refill(w, d, n, p)
+    heap.refill(w, p)
 }
 
 // Cell c at position p of a heap of n has another key or order number, and settles again; says how many entries moved. Nothing is done
@@ -277,10 +296,10 @@ pub fn resettle(w: &mut [u64], d: u64, n: u64, p: u64, c: u64) -> u64
     ensures words { w.new ≡ (resettle_walk d n p c w.old).words }
     ensures steps { result ≡ (resettle_walk d n p c w.old).steps }
 {
-    if !in_reach(d, n, p) {
+    let Some(heap) = Shape::of(d, n, p) else {
         return 0;
-    }
-    let steps = settle(w, d, n, p, c);
+    };
+    let steps = heap.settle(w, p, c);
     if steps == 0 {
         return 0;
     }

@@ -1,21 +1,16 @@
 -- One outcome of the public parts of the audits that tell more than yes or no.
 -- Assumes nothing.
 use Prim.Native.Nat.{ℕ}
-use mathlib.Core.Bool.{Bool, cond, ◌&&◌}
+use mathlib.Core.Bool.{Bool}
 use mathlib.Core.List.{List}
 use mathlib.Core.Path.{◌≡◌, refl, sym, ap, ◌∙◌}
-use lib.ListN.{length}
-use Rattle.cells.specs.Rules.{Sound}
-use Rattle.cells.specs.Stack.{frees}
 use Rattle.cells.specs.declared.store.Store.{Store}
-use Rattle.audits.specs.AuditTests.{all_below}
 use Rattle.audits.specs.Verdicts.{Judged}
 use Rattle.std.specs.Prelude.{Option, Some, None}
 use Rattle.cells.proofs.Cases.{clash}
 use Rattle.slots.specs.declared.ring.Ends.{Ends}
-use Rattle.wheel_rules.specs.AuditTests.{noted, list_climbs, WalkFound}
+use Rattle.wheel_rules.specs.AuditTests.{WalkFound}
 use Rattle.wheel_rules.specs.declared.walk.Noted.{Noted}
-use Rattle.promises.proofs.OneOutcome.{one-test}
 
 -- `audit_and_count` of audits.
 pub one-verdict : (w : List ℕ) (s : Store) (used free : ℕ) (v v' : Option ℕ) → Judged w s used free v → Judged w s used free v' → v ≡ v'

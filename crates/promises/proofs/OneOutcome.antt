@@ -83,24 +83,27 @@ module _ (w w' first first' last last' marks marks' : List ℕ) where
 
 -- A turn of its parts.
 abbrev turn_of : ℕ → Ends → Store → ℕ → ℕ → Turn
-turn_of clock due store fired moves = record { clock = clock; due = due; store = store; fired = fired; moves = moves }
+turn_of clock due store fired moves = record { dial = record { clock = clock; due = due; store = store }; fired = fired; moves = moves }
 
-turn-same : (t t' : Turn) → t.clock ≡ t'.clock → t.due ≡ t'.due → t.store ≡ t'.store → t.fired ≡ t'.fired → t.moves ≡ t'.moves → t ≡ t'
+turn-same : (t t' : Turn) → t.dial.clock ≡ t'.dial.clock → t.dial.due ≡ t'.dial.due → t.dial.store ≡ t'.dial.store → t.fired ≡ t'.fired
+    → t.moves ≡ t'.moves → t ≡ t'
 turn-same t t' a b c d e =
-    let whole : turn_of t.clock t.due t.store t.fired t.moves ≡ turn_of t'.clock t'.due t'.store t'.fired t'.moves = cc in
+    let whole :
+    turn_of t.dial.clock t.dial.due t.dial.store t.fired t.moves ≡ turn_of t'.dial.clock t'.dial.due t'.dial.store t'.fired t'.moves =
+    cc in
     whole
 
 -- One equation between all that an advance works on determines each thing that is lent to it, and its turn.
 module _ (w w' first first' last last' marks marks' out out' : List ℕ) where
   pub record SameState (t t' : Turn) : Type 0 where
-    pub lists : SameLists w w' first first' last last' marks marks' t.due t'.due
+    pub lists : SameLists w w' first first' last last' marks marks' t.dial.due t'.dial.due
     pub output : out ≡ out'
     pub turn : t ≡ t'
 
   state-parts : (t t' : Turn) → state_of w first last marks out t ≡ state_of w' first' last' marks' out' t' → SameState t t'
   state-parts t t' e =
       let l =
-      one-lists w w' first first' last last' marks marks' t.due t'.due (lists_of w' first' last' marks' t'.due)
+      one-lists w w' first first' last last' marks marks' t.dial.due t'.dial.due (lists_of w' first' last' marks' t'.dial.due)
       (ap (λ (z : State). z.lists) e) refl in
       record {
         lists = l;
@@ -184,7 +187,7 @@ queue-one-call call s p h t₁ t₂ s₁ s₂ one two =
     (queue_demands.promised call s t₁ s₁ one).1 (queue_demands.promised call s t₂ s₂ two).1 in
     (same.told, lent_same s₁ s₂ same.head same.words)
 
--- `write_text`, `write_number` and `write_line` of script.
+-- `Page::text`, `number` and `line` of script, and what replies with them.
 pub one-laid : (out : List ℕ) (at : ℕ) (text out₁ out₂ : List ℕ) (end₁ end₂ : ℕ) → Laid out at text out₁ end₁ → Laid out at text out₂ end₂
     → (out₁ ≡ out₂) × (end₁ ≡ end₂)
 one-laid out at text out₁ out₂ end₁ end₂ p q = (p.bytes ∙ sym q.bytes, p.stop ∙ sym q.stop)

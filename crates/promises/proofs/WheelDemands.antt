@@ -20,7 +20,7 @@ use Rattle.dial.specs.Lent.{lists_of}
 use Rattle.dial.proofs.Listed.{step-plain}
 use Rattle.wheel.specs.Answers.{told, told_set_up}
 use Rattle.wheel.specs.Promise.{head_lists, Promise}
-use Rattle.wheel.specs.SetUps.{set_up_causes, empty_head, fresh_store, set_up_answer, set_up_head, set_up_words}
+use Rattle.wheel.specs.SetUps.{set_up_causes, set_up_answer, set_up_head, set_up_words}
 use Rattle.dial.specs.declared.state.Dial.{Dial}
 use Rattle.wheel.specs.declared.head.Head.{Head}
 use Rattle.std.specs.Prelude.{Result, Ok, Err}

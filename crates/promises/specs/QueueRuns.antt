@@ -14,7 +14,7 @@ use Rattle.queue.specs.SetUps.{set_up_answer, set_up_words}
 use Rattle.queue.specs.declared.head.Head.{Head}
 use Rattle.promises.specs.Made.{Lent, Made, Runs, calls_of, told_by, left_by}
 
--- "Every operation comes twice": one call of the code, quick or checked. A call in place promises what the quick one does.
+-- "Every operation comes twice": one call of the code, quick or checked.
 pub data OneCall (call : Call) (s : Lent Head) (t : Told) (s' : Lent Head) : Type 0 where
   quick : OfQueue call → Promise call s.head s.words t s'.head s'.words → OneCall call s t s'
   checked : OfQueue call → Checked call s.head s.words t s'.head s'.words → OneCall call s t s'

@@ -21,7 +21,7 @@ unfoldable pub refusal : ℕ → Told
 refusal i = told (Refused i) 0
 
 unfoldable pub handed : Found → Answer
-handed f = Shows (record { cell = f.cell; ticket = f.ticket; key = f.key; load = f.load })
+handed f = Shows (record { cell = f.at.cell; ticket = f.at.ticket; key = f.key; load = f.load })
 
 unfoldable pub told_put : Result Entered Refusal → Told
 told_put (Err r) = refusal (number_of r)

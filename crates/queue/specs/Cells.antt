@@ -6,4 +6,4 @@ use Rattle.queue.specs.declared.head.Found.{Found}
 
 -- "First and take answer key, cell, ticket and load"
 unfoldable pub found_in : List ℕ → ℕ → Found
-found_in w c = record { key = word w c 2; cell = c; ticket = word w c 0; load = word w c 3 }
+found_in w c = record { key = word w c 2; at = record { cell = c; ticket = word w c 0 }; load = word w c 3 }

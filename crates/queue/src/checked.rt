@@ -12,7 +12,7 @@ use crate::quick;
 use cells::refusal::Refusal;
 use cells::store::Handle;
 
-// Passes what keeps to the written rules.
+// Passes what keeps to the written rules. The wheel's `audited` asks another head of other rules.
 fn sound(w: &[u64], h: &Head) -> Result<(), Refusal>
     ensures passed { IsOk result ↔ QueueSound w.now h.now }
     ensures refused { IfErr result (λ cause. cause ≡ Refusal.Unsound) }

@@ -10,12 +10,11 @@ pub struct Head {
     pub store: Store,
 }
 
-// What first and take hand out.
+// What first and take hand out: the entry's key, its handle and its load.
 #[derive(Clone, Copy)]
 pub struct Found {
     pub key: u64,
-    pub cell: u64,
-    pub ticket: u64,
+    pub at: Handle,
     pub load: u64,
 }
 

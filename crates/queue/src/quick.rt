@@ -22,8 +22,10 @@ fn found(w: &[u64], c: u64) -> Found
 {
     Found {
         key: get(w, c, 2),
-        cell: c,
-        ticket: get(w, c, 0),
+        at: Handle {
+            cell: c,
+            ticket: get(w, c, 0),
+        },
         load: get(w, c, 3),
     }
 }

@@ -37,18 +37,16 @@ fn mix(sum: u64, x: u64) -> u64 {
     sum % 4294967296 * 31 + x % 4294967296
 }
 
-// Word j, or 0 where there is none.
+// Word j, or 0 where there is none. What mixes, reads, writes and keeps here has a twin in `wheel_doors`: no crate sees a static library, and a
+// crate of these few lines of a benchmark would promise nothing and be no plainer.
 fn read(w: &[u64], j: u64) -> u64 {
-    if j < w.len() as u64 {
-        return w[j as usize];
-    }
-    0
+    w.get(j as usize).copied().unwrap_or(0)
 }
 
 // Writes word j, where there is one.
 fn write(w: &mut [u64], j: u64, x: u64) {
-    if j < w.len() as u64 {
-        w[j as usize] = x;
+    if let Some(word) = w.get_mut(j as usize) {
+        *word = x;
     }
 }
 
@@ -137,7 +135,7 @@ impl Run {
     }
 }
 
-// The operation of two words: the slot times 4 with the kind (0 put, 1 take, 2 rekey, 3 remove), then the key.
+// The operation of two words, as C writes them: the slot times 4 with the kind (0 put, 1 take, 2 rekey, 3 remove), then the key.
 fn operation_of(word: u64, key: u64) -> Operation {
     Operation {
         kind: Kind::of(word % 4),
@@ -149,9 +147,9 @@ fn operation_of(word: u64, key: u64) -> Operation {
 // Runs a trace from this head on, and gives the sum of what came out; a refusal counts as its number.
 fn run_all(w: &mut [u64], trace: &[u64], handles: &mut [u64], head: Head) -> u64 {
     let mut r = Run { head, sum: 0 };
-    for i in 0..trace.len() / 2 {
-        let o = operation_of(trace[i * 2], trace[i * 2 + 1]);
-        if let Err(cause) = r.run(w, handles, o, i as u64) {
+    for (load, words) in (0..).zip(trace.chunks_exact(2)) {
+        let o = operation_of(words[0], words[1]);
+        if let Err(cause) = r.run(w, handles, o, load) {
             r.add(u64::from(cause));
         }
     }

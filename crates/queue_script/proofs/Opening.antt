@@ -1,9 +1,9 @@
 -- Set-up of a queue of 1 to 512 cells by the first line, and the lines after it.
 -- Assumes nothing.
-use Prim.Native.Nat.{ℕ, ◌*◌, ◌/◌, ◌≤◌, min}
+use Prim.Native.Nat.{ℕ, ◌*◌, ◌/◌, ◌≤◌}
 use native.Mathlib.Omega.{arith}
 use mathlib.Core.Bool.{true, false}
-use mathlib.Core.List.{List, ◌++◌}
+use mathlib.Core.List.{List, [], ◌++◌}
 use mathlib.Core.Path.{◌≡◌, refl, sym, ap, subst, ◌∙◌}
 use lib.ListN.{length, take, drop}
 use lib.Seq.{take_at}
@@ -23,13 +23,13 @@ use Rattle.queue.proofs.SetUpCases.{refused-arity, accepted-both}
 use Rattle.queue.proofs.SetUpShown.{set-up-ready}
 use Rattle.script.specs.Answers.{Laid}
 use Rattle.script.specs.Grammar.{read_line}
-use Rattle.script.proofs.Laying.{laid_as, laid_none}
+use Rattle.script.proofs.Laying.{laid_as}
 use Rattle.queue_script.specs.Commands.{command_of}
 use Rattle.queue_script.specs.Texts.{bad_text, refused_text, ready_text}
 use Rattle.queue_script.specs.Spoken.{call_of, Obeyed}
-use Rattle.queue_script.specs.Runs.{Place, Before, Ended, opening_of, opening_text, opening_place, call_model, printed, following, Blank, Opened, Stands, Reached, Begun, Answered}
-use Rattle.queue_script.specs.declared.serving.Session.{Session}
-use Rattle.queue_script.specs.declared.serving.Session.TheVariants as session
+use Rattle.queue_script.specs.Runs.{Place, Ended, opening_of, opening_text, opening_place, call_model, printed, following, Blank, Opened, Stands, Begun, Answered}
+use Rattle.script.specs.declared.session.Session.{Session}
+use Rattle.script.specs.declared.session.Session.TheVariants as session
 use Rattle.queue_script.proofs.Speaking.{obeyed-shown}
 
 module _ (w : List ℕ) (n d : ℕ) (long : length w ≡ n * 8) (some : 1 ≤ n) (most : n ≤ 512) where
@@ -97,15 +97,15 @@ pub begun-wrong : (out : List ℕ) (at : ℕ) (w out' : List ℕ) (end : ℕ) �
 unfolding Stands opening_place opening_text
 begun-wrong out at w out' end laid = record { stands = refl; lines = laid }
 
-module _ (was : Session) (w line out : List ℕ) (at : ℕ) (p : Place) where
+module _ (was : Session Head) (w line out : List ℕ) (at : ℕ) (p : Place) where
   -- The first line.
-  pub answered-first : (now : Session) (w' out' : List ℕ) (end : ℕ) → was ≡ session.Fresh
+  pub answered-first : (now : Session Head) (w' out' : List ℕ) (end : ℕ) → was ≡ session.Fresh
       → (4096 ≤ length w → Begun (opening_of (command_of (read_line line))) out at now w' out' end)
       → Stands was w p
       → Answered p line out at now w' out' end
   unfolding Stands following printed
   answered-first now w' out' end e begun s =
-      let blank : Blank w p = subst (λ (x : Session). Stands x w p) e s in
+      let blank : Blank w p = subst (λ (x : Session Head). Stands x w p) e s in
       let known = begun blank.words in
       rw blank.place (record { stands = known.stands; lines = known.lines })
 
@@ -116,7 +116,7 @@ module _ (was : Session) (w line out : List ℕ) (at : ℕ) (p : Place) where
       → Answered p line out at (session.Open n h') (v ++ drop n w) out' end
   unfolding Stands following printed
   answered-next n h h' v out' end e long obeyed s =
-      let opened : Opened n h w p = subst (λ (x : Session). Stands x w p) e s in
+      let opened : Opened n h w p = subst (λ (x : Session Head). Stands x w p) e s in
       let known = obeyed-shown _ _ _ _ _ _ _ _ (call_of (command_of (read_line line))) opened.model obeyed opened.shows in
       rw opened.place
       (record {
@@ -130,21 +130,8 @@ module _ (was : Session) (w line out : List ℕ) (at : ℕ) (p : Place) where
       })
 
   -- Once the run is over.
-  pub answered-over : (end : ℕ) → was ≡ session.Over → end ≡ min at (length out) → Stands was w p → Answered p line out at session.Over w out end
+  pub answered-over : (out' : List ℕ) (end : ℕ) → was ≡ session.Over → Laid out at [] out' end → Stands was w p → Answered p line out at session.Over w out' end
   unfolding Stands following printed
-  answered-over end e h s =
-      let over : p ≡ Ended = subst (λ (x : Session). Stands x w p) e s in
-      rw over (record { stands = refl; lines = laid_none out at end (omega arith) })
-
--- From any place of a run an answered line reaches the next.
-pub reached-on : (was now : Session) (w line out : List ℕ) (at : ℕ) (w' out' : List ℕ) (end : ℕ)
-    → Reached was w
-    → ((p : Place) → Stands was w p → Answered p line out at now w' out' end)
-    → Reached now w'
-reached-on was now w line out at w' out' end reached told =
-    record { place = following reached.place line; stands = (told reached.place reached.stands).stands }
-
--- A run begins.
-pub reached-first : (w : List ℕ) → 4096 ≤ length w → Reached session.Fresh w
-unfolding Stands
-reached-first w long = record { place = Before; stands = record { place = refl; words = long } }
+  answered-over out' end e laid s =
+      let over : p ≡ Ended = subst (λ (x : Session Head). Stands x w p) e s in
+      rw over (record { stands = refl; lines = laid })

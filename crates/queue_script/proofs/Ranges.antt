@@ -23,7 +23,7 @@ Sized None = Unit {0}
 Sized (Some o) = (1 ≤ o.cells) × (o.cells ≤ 512)
 
 -- Of two commands either sets a queue within the range up, or none.
-either : (t : Bool) (x y : Command) → Sized (opening_of x) → Sized (opening_of y) → Sized (opening_of (cond t x y))
+either : (t : Bool) (x y : Option Command) → Sized (opening_of x) → Sized (opening_of y) → Sized (opening_of (cond t x y))
 either true x y p q = p
 either false x y p q = q
 
@@ -37,12 +37,12 @@ queue-sized n d =
 
 line-sized : (w : ℕ) (n : Numbers) → Sized (opening_of (of_line w n))
 unfolding of_line of_none of_two of_three opening_of
-line-sized w numbers.Zero = either (eqb w 70) command.First _ tt (either (eqb w 84) command.Take command.Bad tt tt)
+line-sized w numbers.Zero = either (eqb w 70) (Some command.First) _ tt (either (eqb w 84) (Some command.Take) None tt tt)
 line-sized w (numbers.One a) = tt
 line-sized w (numbers.Two a b) =
-    either (eqb w 80) (command.Put a b) _ tt
-    (either (eqb w 82) (command.Remove a b) _ tt (either (eqb w 487300887909) _ command.Bad (queue-sized a b) tt))
-line-sized w (numbers.Three a b c) = either (eqb w 75) (command.Rekey a b c) command.Bad tt tt
+    either (eqb w 80) (Some (command.Put a b)) _ tt
+    (either (eqb w 82) (Some (command.Remove a b)) _ tt (either (eqb w 487300887909) _ None (queue-sized a b) tt))
+line-sized w (numbers.Three a b c) = either (eqb w 75) (Some (command.Rekey a b c)) None tt tt
 
 sized : (r : Option Line) → Sized (opening_of (command_of r))
 unfolding command_of opening_of

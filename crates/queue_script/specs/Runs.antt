@@ -16,8 +16,8 @@ use Rattle.queue_script.specs.Spoken.{call_of}
 use Rattle.queue_script.specs.declared.commands.Command.{Command}
 use Rattle.queue_script.specs.declared.commands.Command.TheVariants as command
 use Rattle.queue_script.specs.declared.commands.Opening.{Opening}
-use Rattle.queue_script.specs.declared.serving.Session.{Session}
-use Rattle.queue_script.specs.declared.serving.Session.TheVariants as session
+use Rattle.script.specs.declared.session.Session.{Session}
+use Rattle.script.specs.declared.session.Session.TheVariants as session
 
 -- Before the first line, with a queue, or ended by the first line.
 pub data Place : Type 0 where
@@ -26,14 +26,14 @@ pub data Place : Type 0 where
   Ended : Place
 
 -- What the first line sets up, if it is right.
-unfoldable pub opening_of : Command → Option Opening
-opening_of command.Bad = None
-opening_of (command.Queue n d) = Some (record { cells = n; arity = d })
-opening_of (command.Put key x) = None
-opening_of command.First = None
-opening_of command.Take = None
-opening_of (command.Rekey c k key) = None
-opening_of (command.Remove c k) = None
+unfoldable pub opening_of : Option Command → Option Opening
+opening_of None = None
+opening_of (Some (command.Queue n d)) = Some (record { cells = n; arity = d })
+opening_of (Some (command.Put key x)) = None
+opening_of (Some command.First) = None
+opening_of (Some command.Take) = None
+opening_of (Some (command.Rekey c k key)) = None
+opening_of (Some (command.Remove c k)) = None
 
 -- "First line `queue N d` .., answered `queue N arity d`"; "A first line that is bad or refused gives `bad line` or its refusal".
 unfoldable pub opening_text : Option Opening → List ℕ
@@ -77,22 +77,22 @@ pub record Opened (n : ℕ) (h : Head) (w : List ℕ) (p : Place) : Type 0 where
   pub place : p ≡ Running model
   pub shows : Shows h (take n w) model
 
-unfoldable pub Stands : Session → List ℕ → Place → Type 0
+unfoldable pub Stands : Session Head → List ℕ → Place → Type 0
 Stands session.Fresh w p = Blank w p
 Stands (session.Open n h) w p = Opened n h w p
 Stands session.Over w p = p ≡ Ended
 
 -- Session and words stand at some place of a run.
-pub record Reached (session : Session) (w : List ℕ) : Type 0 where
+pub record Reached (session : Session Head) (w : List ℕ) : Type 0 where
   pub place : Place
   pub stands : Stands session w place
 
 -- The first line is answered.
-pub record Begun (x : Option Opening) (out : List ℕ) (at : ℕ) (session : Session) (w out' : List ℕ) (end : ℕ) : Type 0 where
+pub record Begun (x : Option Opening) (out : List ℕ) (at : ℕ) (session : Session Head) (w out' : List ℕ) (end : ℕ) : Type 0 where
   pub stands : Stands session w (opening_place x)
   pub lines : Laid out at (opening_text x) out' end
 
 -- A line is answered at a place of a run: the run's text is laid, and session and words stand where the run does next.
-pub record Answered (p : Place) (line out : List ℕ) (at : ℕ) (session : Session) (w out' : List ℕ) (end : ℕ) : Type 0 where
+pub record Answered (p : Place) (line out : List ℕ) (at : ℕ) (session : Session Head) (w out' : List ℕ) (end : ℕ) : Type 0 where
   pub stands : Stands session w (following p line)
   pub lines : Laid out at (printed p line) out' end

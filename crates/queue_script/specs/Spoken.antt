@@ -24,14 +24,14 @@ pub record Spurned (h : Head) (w out : List ℕ) (at : ℕ) (h' : Head) (w' out'
   pub line : Laid out at bad_text out' end
 
 -- The call of a command; a queue is set up by the first line alone.
-unfoldable pub call_of : Command → Option Call
-call_of command.Bad = None
-call_of (command.Queue n d) = None
-call_of (command.Put key x) = Some (Put key x)
-call_of command.First = Some First
-call_of command.Take = Some Take
-call_of (command.Rekey c k key) = Some (Rekey c k key)
-call_of (command.Remove c k) = Some (Remove c k)
+unfoldable pub call_of : Option Command → Option Call
+call_of None = None
+call_of (Some (command.Queue n d)) = None
+call_of (Some (command.Put key x)) = Some (Put key x)
+call_of (Some command.First) = Some First
+call_of (Some command.Take) = Some Take
+call_of (Some (command.Rekey c k key)) = Some (Rekey c k key)
+call_of (Some (command.Remove c k)) = Some (Remove c k)
 
 -- A line after the first: its call, or a bad line.
 unfoldable pub Obeyed : Option Call → Head → List ℕ → List ℕ → ℕ → Head → List ℕ → List ℕ → ℕ → Type 0

@@ -2,6 +2,7 @@
 -- Assumes nothing.
 use Rattle.std.specs.Prelude.{ℕ, Bool, true, false, List, [], ◌∷◌}
 use Rattle.script.specs.Answers.{answer_line}
+pub use Rattle.script.specs.Answers.{bad_text, refused_text}
 use Rattle.meaning.specs.Calls.{
   Call,
   Put,
@@ -26,14 +27,6 @@ use Rattle.meaning.specs.Calls.{
   Wakes,
 }
 use Rattle.queue.specs.Answers.{Told}
-
--- `bad line`
-abbrev pub bad_text : List ℕ
-bad_text = answer_line (98 ∷ 97 ∷ 100 ∷ 32 ∷ 108 ∷ 105 ∷ 110 ∷ 101 ∷ []) [] [] [] []
-
--- `refused i`
-abbrev pub refused_text : ℕ → List ℕ
-refused_text i = answer_line (114 ∷ 101 ∷ 102 ∷ 117 ∷ 115 ∷ 101 ∷ 100 ∷ []) (i ∷ []) [] [] []
 
 -- `queue n arity d`
 abbrev pub ready_text : ℕ → ℕ → List ℕ

@@ -10,7 +10,6 @@ use script::reading::{Line, Numbers, read_line};
 // Each command with its numbers, in the order of the line.
 #[derive(Clone, Copy)]
 pub enum Command {
-    Bad,
     Queue(u64, u64),
     Put(u64, u64),
     First,
@@ -40,57 +39,57 @@ const REKEY: u64 = b'K' as u64;
 const REMOVE: u64 = b'R' as u64;
 
 #[tactic(auto, unfolding(crate::specs::Commands::of_none))]
-fn of_none(word: u64) -> Command
+fn of_none(word: u64) -> Option<Command>
     ensures { result ≡ of_none word }
 {
     match word {
-        FIRST => Command::First,
-        TAKE => Command::Take,
-        _ => Command::Bad,
+        FIRST => Some(Command::First),
+        TAKE => Some(Command::Take),
+        _ => None,
     }
 }
 
 // A queue of 1 to 512 cells.
 #[tactic(auto, unfolding(crate::specs::Commands::queue_of))]
-fn queue_of(n: u64, d: u64) -> Command
+fn queue_of(n: u64, d: u64) -> Option<Command>
     ensures { result ≡ queue_of n d }
 {
     match n {
-        1..=512 => Command::Queue(n, d),
-        _ => Command::Bad,
+        1..=512 => Some(Command::Queue(n, d)),
+        _ => None,
     }
 }
 
 #[tactic(auto, unfolding(crate::specs::Commands::of_two))]
-fn of_two(word: u64, a: u64, b: u64) -> Command
+fn of_two(word: u64, a: u64, b: u64) -> Option<Command>
     ensures { result ≡ of_two word a b }
 {
     match word {
-        PUT => Command::Put(a, b),
-        REMOVE => Command::Remove(a, b),
+        PUT => Some(Command::Put(a, b)),
+        REMOVE => Some(Command::Remove(a, b)),
         QUEUE => queue_of(a, b),
-        _ => Command::Bad,
+        _ => None,
     }
 }
 
 #[tactic(auto, unfolding(crate::specs::Commands::of_three))]
-fn of_three(word: u64, a: u64, b: u64, c: u64) -> Command
+fn of_three(word: u64, a: u64, b: u64, c: u64) -> Option<Command>
     ensures { result ≡ of_three word a b c }
 {
     match word {
-        REKEY => Command::Rekey(a, b, c),
-        _ => Command::Bad,
+        REKEY => Some(Command::Rekey(a, b, c)),
+        _ => None,
     }
 }
 
 // By the numbers first, so that a word with too few or too many is bad.
 #[tactic(auto, unfolding(crate::specs::Commands::of_line))]
-fn of_line(line: Line) -> Command
+fn of_line(line: Line) -> Option<Command>
     ensures { result ≡ of_line line.word line.numbers }
 {
     match line.numbers {
         Numbers::Zero => of_none(line.word),
-        Numbers::One(_) => Command::Bad,
+        Numbers::One(_) => None,
         Numbers::Two(a, b) => of_two(line.word, a, b),
         Numbers::Three(a, b, c) => of_three(line.word, a, b, c),
     }
@@ -98,22 +97,19 @@ fn of_line(line: Line) -> Command
 
 // A line, without its line feed.
 #[tactic(auto, unfolding(crate::specs::Commands::command_of))]
-pub fn read_command(line: &[u8]) -> Command
+pub fn read_command(line: &[u8]) -> Option<Command>
     ensures { result ≡ command_of (read_line line.now) }
 {
-    match read_line(line) {
-        Some(read) => of_line(read),
-        None => Command::Bad,
-    }
+    of_line(read_line(line)?)
 }
 
 // A command as the first of a run: only one that sets a queue up is right there.
 #[tactic(auto, unfolding(crate::specs::Runs::opening_of))]
-pub fn as_first(command: Command) -> Option<Opening>
+pub fn as_first(command: Option<Command>) -> Option<Opening>
     ensures { result ≡ opening_of command }
 {
     match command {
-        Command::Queue(cells, arity) => Some(Opening { cells, arity }),
+        Some(Command::Queue(cells, arity)) => Some(Opening { cells, arity }),
         _ => None,
     }
 }

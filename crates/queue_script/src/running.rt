@@ -1,34 +1,38 @@
 // A run of the script on a ready queue, as the drive takes it: the words, and where the run stands.
-#![tactic(auto, unfolding(crate::specs::Sessions::words_of))]
+#![tactic(auto, unfolding(script::specs::Sessions::words_of))]
 
 ghost use Rattle.std.specs.Prelude.{ℕ, ◌≤◌, List, length};
-ghost use Rattle.queue_script.specs.Sessions.{words_of, Within};
+ghost use Rattle.script.specs.Sessions.{words_of};
+ghost use Rattle.script.specs.Pages.{same_bytes};
 ghost use Rattle.queue_script.specs.Runs.{Place, Stands, Reached as RunReached, Answered};
 
 use crate::calls::obey;
-use crate::serving::{Session, Turn, begin, goes_on};
+use crate::serving::begin;
+use queue::head::Head;
 use script::drive::Machine;
+use script::session::Session;
+use script::writing::Page;
 
-// Answers a line; once the run is over nothing is answered.
-fn answer(out: &mut [u8], at: usize, w: &mut [u64], session: Session, line: &[u8]) -> Turn
+// Answers a line; once the run is over nothing is answered, that is a text of no bytes.
+fn answer(page: &mut Page, w: &mut [u64], session: Session<Head>, line: &[u8]) -> Session<Head>
     requires { words_of session ≤ length w.old }
-    ensures within { Within result (length out.old) (length w.old) }
+    ensures bytes { same_bytes page.old page.new }
+    ensures place { page.new.end ≤ length page.old.bytes.now }
+    ensures engine { words_of result ≤ length w.old }
     ensures told { (p : Place) → Stands session w.old p
-        → Answered p line.now out.old at result.session w.new out.new result.end }
+        → Answered p line.now page.old.bytes.now page.old.end result w.new page.new.bytes.now page.new.end }
 {
     match session {
-        Session::Fresh => begin(out, at, w, line),
+        Session::Fresh => begin(page, w, line),
         Session::Open(n, head) => {
             let mut next = head;
-            Turn {
-                end: obey(out, at, &mut w[..n], &mut next, line),
-                session: Session::Open(n, next),
-            }
+            obey(page, &mut w[..n], &mut next, line);
+            Session::Open(n, next)
         }
-        Session::Over => Turn {
-            end: at.min(out.len()),
-            session: Session::Over,
-        },
+        Session::Over => {
+            page.text(b"");
+            Session::Over
+        }
     }
 }
 
@@ -36,13 +40,13 @@ fn answer(out: &mut [u8], at: usize, w: &mut [u64], session: Session, line: &[u8
 #[derive(Drop)]
 pub struct QueueRun {
     pub words: [u64; 4096],
-    pub session: Session,
+    pub session: Session<Head>,
     ghost within: { words_of session ≤ 4096 },
 }
 
 impl QueueRun {
     // Before the first line.
-    #[tactic(auto, unfolding(crate::specs::Sessions::words_of, crate::specs::Runs::Stands))]
+    #[tactic(auto, unfolding(script::specs::Sessions::words_of, crate::specs::Runs::Stands))]
     pub fn new() -> Self
         ensures { RunReached result.session result.words }
     {
@@ -58,18 +62,17 @@ impl Machine for QueueRun {
 
     const ROOM: usize = 256;
 
-    fn answer(&mut self, out: &mut [u8], at: usize, line: &[u8]) -> usize
-        ensures within { result ≤ length out.old }
+    fn answer(&mut self, page: &mut Page, line: &[u8])
+        ensures bytes { same_bytes page.old page.new }
+        ensures within { page.new.end ≤ length page.old.bytes.now }
         ensures reached { RunReached self.old.session self.old.words → RunReached self.new.session self.new.words }
         ensures told { (p : Place) → Stands self.old.session self.old.words p
-            → Answered p line.now out.old at self.new.session self.new.words out.new result }
+            → Answered p line.now page.old.bytes.now page.old.end self.new.session self.new.words page.new.bytes.now page.new.end }
     {
-        let turn = answer(out, at, &mut self.words, self.session, line);
-        self.session = turn.session;
-        turn.end
+        self.session = answer(page, &mut self.words, self.session, line);
     }
 
     fn goes_on(&self) -> bool {
-        goes_on(self.session)
+        self.session.goes_on()
     }
 }

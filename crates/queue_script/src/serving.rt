@@ -1,80 +1,63 @@
-// A run, line by line: the first line sets the queue up or ends the run, and every other is a command.
-#![tactic(auto, unfolding(crate::specs::Sessions::words_of))]
+// A run, line by line: the first line sets the queue up or ends the run, and every other is a command. The wheel's program has functions of
+// the same names here, in `answers` and in `calls`: they call another engine, and their promises speak of its model.
+#![tactic(auto, unfolding(script::specs::Sessions::words_of))]
 
 ghost use Rattle.std.specs.Prelude.{◌≡◌, ◌≤◌, Some, length};
-ghost use Rattle.queue_script.specs.Sessions.{words_of, goes_on, Within};
+ghost use Rattle.script.specs.Sessions.{words_of};
+ghost use Rattle.script.specs.Pages.{same_bytes};
 ghost use Rattle.script.specs.Grammar.{read_line};
 ghost use Rattle.queue_script.specs.Commands.{command_of};
 ghost use Rattle.queue_script.specs.Runs.{opening_of, Begun};
 
-use crate::answers::{bad_line, ready, refused};
+use crate::answers::ready;
 use crate::commands::{Opening, as_first, read_command};
 use queue::head::Head;
 use queue::setup::set_up;
-
-// Where a run stands: before its first line, with a queue in so many of the words, or ended by its first line.
-#[derive(Clone, Copy)]
-pub enum Session {
-    Fresh,
-    Open(usize, Head),
-    Over,
-}
-
-// What a line leaves: where its answer ends in the output, and where the run stands.
-#[derive(Clone, Copy)]
-pub struct Turn {
-    pub end: usize,
-    pub session: Session,
-}
+use script::replies::{bad_line, refused};
+use script::session::Session;
+use script::writing::Page;
 
 // Sets a queue up: a bad line where the words hold fewer cells.
-fn open(out: &mut [u8], at: usize, w: &mut [u64], first: Opening) -> Turn
+fn open(page: &mut Page, w: &mut [u64], first: Opening) -> Session<Head>
     requires { (1 ≤ first.cells) × (first.cells ≤ 512) }
-    ensures within { Within result (length out.old) (length w.old) }
-    ensures told { 4096 ≤ length w.old → Begun (Some first) out.old at result.session w.new out.new result.end }
+    ensures bytes { same_bytes page.old page.new }
+    ensures place { page.new.end ≤ length page.old.bytes.now }
+    ensures engine { words_of result ≤ length w.old }
+    ensures told { 4096 ≤ length w.old → Begun (Some first) page.old.bytes.now page.old.end
+        result w.new page.new.bytes.now page.new.end }
 {
     let cells = first.cells as usize;
     if cells > w.len() / 8 {
-        return Turn {
-            end: bad_line(out, at),
-            session: Session::Over,
-        };
+        bad_line(page);
+        return Session::Over;
     }
     let words = cells * 8;
     match set_up(&mut w[..words], first.arity) {
-        Err(cause) => Turn {
-            end: refused(out, at, cause),
-            session: Session::Over,
-        },
-        Ok(head) => Turn {
-            end: ready(out, at, first.cells, first.arity),
-            session: Session::Open(words, head),
-        },
+        Err(cause) => {
+            refused(page, cause);
+            Session::Over
+        }
+        Ok(head) => {
+            ready(page, first.cells, first.arity);
+            Session::Open(words, head)
+        }
     }
 }
 
 // Answers the first line.
-pub fn begin(out: &mut [u8], at: usize, w: &mut [u64], line: &[u8]) -> Turn
-    ensures within { Within result (length out.old) (length w.old) }
+pub fn begin(page: &mut Page, w: &mut [u64], line: &[u8]) -> Session<Head>
+    ensures bytes { same_bytes page.old page.new }
+    ensures place { page.new.end ≤ length page.old.bytes.now }
+    ensures engine { words_of result ≤ length w.old }
     ensures told { 4096 ≤ length w.old
-        → Begun (opening_of (command_of (read_line line.now))) out.old at result.session w.new out.new result.end }
+        → Begun (opening_of (command_of (read_line line.now))) page.old.bytes.now page.old.end
+        result w.new page.new.bytes.now page.new.end }
 {
     match as_first(read_command(line)) {
-        Some(first) => open(out, at, w, first),
-        None => Turn {
-            end: bad_line(out, at),
-            session: Session::Over,
-        },
-    }
-}
-
-// Whether there is a further line to read.
-#[tactic(auto, unfolding(crate::specs::Sessions::goes_on))]
-pub fn goes_on(session: Session) -> bool
-    ensures { result ≡ goes_on session }
-{
-    match session {
-        Session::Fresh | Session::Open(_, _) => true,
-        Session::Over => false,
+        Some(first) => open(page, w, first),
+        None => {
+            bad_line(page);
+            Session::Over
+        }
     }
 }

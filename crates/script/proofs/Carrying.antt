@@ -1,6 +1,6 @@
 -- Laws of bytes moved to the front, one by one.
 -- Assumes nothing.
-use Prim.Native.Nat.{ℕ, ◌+◌, ◌-◌, ◌≤◌, ◌<◌, min}
+use Prim.Native.Nat.{ℕ, ◌+◌, ◌-◌, ◌<◌, min}
 use native.Mathlib.Omega.{arith}
 use mathlib.Core.List.{List}
 use mathlib.Core.Path.{◌≡◌, refl, sym, ◌∙◌}
@@ -52,10 +52,3 @@ carrying-none s from to n z m =
       bytes = rw (← same, z) refl;
       many = rw (← same) (sym (length-take-le n (drop from s) (omega (arith, length-drop from s))));
     }
-
--- What is carried lies within the bytes, and is never more than 129 of them.
-pub carried-within : (s : List ℕ) (from to : ℕ) (s' : List ℕ) (n : ℕ) → Carried s from to s' n → (n ≤ length s) × (n ≤ 129)
-unfolding carried_of
-carried-within s from to s' n v =
-    let long = length-take 129 (drop from (take to s)) in
-    (omega (arith, v.many, long, length-drop from (take to s), length-take to s), omega (arith, v.many, long))

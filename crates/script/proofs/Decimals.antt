@@ -3,10 +3,10 @@
 use Prim.Native.Nat.{ℕ, zero, suc, ◌+◌, ◌-◌, ◌/◌, ◌%◌, ◌^◌, ◌≤◌, ◌<◌}
 use native.Mathlib.Omega.{arith}
 use native.Mathlib.Nat.{pow-suc}
-use mathlib.Core.List.{List, [], ◌∷◌, ◌++◌, append-nil}
+use mathlib.Core.List.{List, [], ◌∷◌, ◌++◌}
 use mathlib.Core.Path.{◌≡◌, sym, ap, ◌∙◌}
 use lib.ListN.{length, take, drop, set, length-append, length-drop, length-set}
-use lib.Seq.{take_all, drop-length, drop-cons, get_or-set_same, drop-set-lt, append_snoc}
+use lib.Seq.{take_all, drop-cons, get_or-set_same, drop-set-lt, append_snoc}
 use borrow.Author.Tests.{lt-ltb, le-ltb}
 use Rattle.cells.proofs.Cases.{at_most?}
 use Rattle.script.specs.Answers.{decimal_in, decimal}
@@ -61,14 +61,6 @@ pub record Spelling (n : ℕ) (d : List ℕ) (rest i : ℕ) : Type 0 where
   pub long : length d ≡ 20
   pub digits : decimal rest ++ drop i d ≡ decimal n
   pub place : i ≤ 20
-
-pub spelling-start : (n : ℕ) (d : List ℕ) (i : ℕ) → n ≤ 18446744073709551615 → length d ≡ 20 → i ≡ length d → Spelling n d n i
-spelling-start n d i h l e = record {
-  fits = h;
-  long = l;
-  digits = rw (e, drop-length d) (append-nil (decimal n));
-  place = omega arith;
-}
 
 -- There is room for the digits of what is left, of which there is one at least.
 pub decimal-some : (n : ℕ) → n ≤ 18446744073709551615 → 1 ≤ length (decimal n)

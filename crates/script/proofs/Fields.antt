@@ -3,7 +3,7 @@
 use Prim.Native.Nat.{ℕ, suc, ◌+◌, ◌-◌, ◌*◌, ◌^◌, ◌≤◌, ◌<◌}
 use native.Mathlib.Omega.{arith}
 use native.Mathlib.Numerals.{add-one}
-use native.Mathlib.Nat.{pow-le-pow_right, pow-suc, sub-zero}
+use native.Mathlib.Nat.{pow-suc, sub-zero}
 use mathlib.Core.Bool.{true, false, ◌&&◌}
 use mathlib.Core.List.{List, [], ◌∷◌}
 use mathlib.Core.Path.{◌≡◌, refl, sym, ◌∙◌}
@@ -229,6 +229,3 @@ word_over s v i h k = last v ∙ (rw (drop_of_length-le s h) at k)
 -- So many bytes make less than that power of 256.
 pub word-larger : (v b i : ℕ) → v < 256 ^ i → b < 256 → v * 256 + b < 256 ^ (i + 1)
 word-larger v b i h k = rw (add-one i) (omega (arith, pow-suc 256 i))
-
-pub word_small : (v i : ℕ) → v < 256 ^ i → i < 8 → v < 72057594037927936
-word_small v i h k = let p : 256 ^ i ≤ 256 ^ 7 = pow-le-pow_right {n = 256} (omega arith) {i = i} {j = 7} (omega arith) in omega arith

@@ -7,7 +7,7 @@ use native.Mathlib.Nat.{add-zero, add-suc, suc-add}
 use mathlib.Core.List.{List, [], ◌∷◌, ◌++◌, append-nil, append_assoc}
 use mathlib.Core.Path.{◌≡◌, refl, sym, ap, ◌∙◌}
 use lib.ListN.{length, take, drop, get_or, set, length-append, take-append-drop, drop_of_length-le}
-use lib.Seq.{sets, length-sets, sets-eq, set_out, take-suc, take_at, take_all, length-take-le, drop-drop}
+use lib.Seq.{sets, length-sets, sets-eq, set_out, take-suc, take_at, length-take-le, drop-drop}
 use Rattle.cells.proofs.Cases.{at_most?}
 use Rattle.script.specs.Answers.{decimal, spaced, Laid}
 
@@ -28,10 +28,6 @@ laid_as out out' at end xs ys a e = record { bytes = rw (← e) a.bytes; stop = 
 -- A text laid leaves as many bytes as there were.
 pub laid-long : (out out' : List ℕ) (at end : ℕ) (text : List ℕ) → Laid out at text out' end → length out' ≡ length out
 laid-long out out' at end text a = ap length a.bytes ∙ length-sets out at text
-
--- Nothing is written, and it ends where it began, or at the end.
-pub laid_none : (out : List ℕ) (at end : ℕ) → end ≡ min (at + 0) (length out) → Laid out at [] out end
-laid_none out at end e = record { bytes = refl; stop = e }
 
 -- Two texts, the second from where the first ends, are one.
 pub laid-join :
@@ -111,17 +107,11 @@ laid-fits out out' at end text a h =
     long : length (take at out ++ text) ≡ at + length text
     long = length-append (take at out) text ∙ ap (λ (n : ℕ). n + length text) (length-take-le at out (omega arith))
 
--- Numbers laid one by one: none, one more, and all.
+-- Numbers laid one by one: one more.
 pub spaced-snoc : (ns : List ℕ) (n : ℕ) → spaced ns ++ (32 ∷ decimal n) ≡ spaced (ns ++ (n ∷ []))
 unfolding spaced
 spaced-snoc [] n = sym (append-nil (32 ∷ decimal n))
 spaced-snoc (m ∷ ns) n = append_assoc (32 ∷ decimal m) (spaced ns) (32 ∷ decimal n) ∙ ap (λ (t : List ℕ). (32 ∷ decimal m) ++ t) (spaced-snoc ns n)
-
-pub numbers-start :
-    (out : List ℕ) (at end : ℕ) (ns : List ℕ)
-    → end ≡ min (at + 0) (length out)
-    → Laid out at (spaced (take 0 ns)) out end
-numbers-start out at end ns e = unfold spaced in laid_none out at end e
 
 pub numbers-again :
     (out out₁ out₂ : List ℕ) (at r s : ℕ) (ns : List ℕ) (i : ℕ)
@@ -134,10 +124,3 @@ numbers-again out out₁ out₂ at r s ns i h a b =
     (spaced (take i ns) ++ (32 ∷ decimal (get_or ns i 0))) (spaced (take (i + 1) ns))
     (laid-join out out₁ out₂ at r s (spaced (take i ns)) (32 ∷ decimal (get_or ns i 0)) a b)
     (spaced-snoc (take i ns) (get_or ns i 0) ∙ rw (add-one i, take-suc ns i 0 h))
-
-pub numbers-all :
-    (out out' : List ℕ) (at end : ℕ) (ns : List ℕ) (i : ℕ)
-    → length ns ≤ i
-    → Laid out at (spaced (take i ns)) out' end
-    → Laid out at (spaced ns) out' end
-numbers-all out out' at end ns i h a = rw (take_all i ns h) at a

@@ -25,6 +25,14 @@ phrase text ns = text ++ spaced ns
 unfoldable pub answer_line : List ℕ → List ℕ → List ℕ → List ℕ → List ℕ → List ℕ
 answer_line head ns tail ms last = ((phrase head ns ++ phrase tail ms) ++ last) ++ (10 ∷ [])
 
+-- `bad line`
+abbrev pub bad_text : List ℕ
+bad_text = answer_line (98 ∷ 97 ∷ 100 ∷ 32 ∷ 108 ∷ 105 ∷ 110 ∷ 101 ∷ []) [] [] [] []
+
+-- `refused i`
+abbrev pub refused_text : ℕ → List ℕ
+refused_text i = answer_line (114 ∷ 101 ∷ 102 ∷ 117 ∷ 115 ∷ 101 ∷ 100 ∷ []) (i ∷ []) [] [] []
+
 -- A text is laid over the bytes from `at` on; what would stand past their end is cut off. `end` is where the text ends.
 pub record Laid (out : List ℕ) (at : ℕ) (text out' : List ℕ) (end : ℕ) : Type 0 where
   pub bytes : out' ≡ sets out at text

@@ -1,11 +1,14 @@
-// The drive of a script program: input is read in chunks, each of its lines is answered by the program's machine, and the answers are written out.
+// The drive of a script program: input is read in chunks, each of its lines is answered by the program's machine, and the answers are
+// written out.
 
-ghost use Rattle.std.specs.Prelude.{◌≤◌, length};
+ghost use Rattle.std.specs.Prelude.{◌≡◌, ◌≤◌, length};
 ghost use Rattle.std.specs.ControlFlow.{MatchControlFlow};
+ghost use Rattle.script.specs.Pages.{same_bytes};
 
 use crate::chunks::carry;
 use crate::console::{read_some, write_all};
 use crate::scan::next;
+use crate::writing::Page;
 use std::io::{Read, Write};
 use std::ops::ControlFlow;
 
@@ -17,25 +20,37 @@ pub trait Machine {
     // No answer to a line is longer than so many bytes.
     const ROOM: usize;
 
-    // Answers a line: the answer is put into `out` from `at` on, and what comes back is where it ends.
-    fn answer(&mut self, out: &mut [u8], at: usize, line: &[u8]) -> usize
-        ensures within { result ≤ length out.old }
+    // Answers a line: the answer is written on the page.
+    fn answer(&mut self, page: &mut Page, line: &[u8])
+        ensures bytes { same_bytes page.old page.new }
+        ensures within { page.new.end ≤ length page.old.bytes.now }
         ensures reached { Reached self.old → Reached self.new };
 
     // Whether there is a further line to read.
     fn goes_on(&self) -> bool;
 }
 
-// Writes out what stands before `at` where the next answer may not fit behind it.
-fn flushed<W: Write>(output: &mut W, out: &[u8], at: usize, room: usize) -> usize
-    requires { at ≤ length out.now }
-    ensures { result ≤ length out.now }
+// Writes out what stands on the page, and begins it again.
+fn send<W: Write>(output: &mut W, page: &mut Page)
+    requires { page.old.end ≤ length page.old.bytes.now }
+    ensures bytes { same_bytes page.old page.new }
+    ensures begun { page.new.end ≡ 0 }
 {
-    if out.len() - at < room {
-        write_all(output, &out[..at]);
-        return 0;
+    let end = page.end;
+    let text = &page.bytes[..end];
+    write_all(output, text);
+    page.end = 0;
+}
+
+// Does so where the next answer may not fit.
+fn make_room<W: Write>(output: &mut W, page: &mut Page, room: usize)
+    requires { page.old.end ≤ length page.old.bytes.now }
+    ensures bytes { same_bytes page.old page.new }
+    ensures within { page.new.end ≤ page.old.end }
+{
+    if page.bytes.len() - page.end < room {
+        send(output, page);
     }
-    at
 }
 
 // Answers the whole lines of a chunk, and says where the rest begins: by `next`, since `split` does not say where its last part stands.
@@ -48,21 +63,21 @@ fn answer_lines<M: Machine, W: Write>(
     ensures within { result ≤ length s.now }
     ensures reached { M.Reached machine.old → M.Reached machine.new }
 {
+    let mut page = Page { bytes: out, end: 0 };
     let mut at = 0;
     let mut end = next(s, 0, b'\n');
-    let mut o = 0;
     while end < s.len() {
-        o = flushed(output, out, o, M::ROOM);
-        o = machine.answer(out, o, &s[at..end]);
+        make_room(output, &mut page, M::ROOM);
+        machine.answer(&mut page, &s[at..end]);
         at = end + 1;
         end = next(s, at, b'\n');
     }
-    write_all(output, &out[..o]);
+    send(output, &mut page);
     at
 }
 
-// Reads once behind the bytes held, answers the whole lines, and carries the rest to the front: so many bytes are held there now, and there is
-// more to read or not.
+// Reads once behind the bytes held, answers the whole lines, and carries the rest to the front: so many bytes are held there now, and
+// there is more to read or not.
 fn advance<M: Machine, R: Read, W: Write>(
     machine: &mut M,
     input: &mut R,
@@ -123,7 +138,8 @@ pub fn run<M: Machine, R: Read, W: Write>(
 {
     let held = read_all(machine, input, output, buf, out);
     if held > 0 {
-        let end = machine.answer(out, 0, &buf[..held]);
-        write_all(output, &out[..end]);
+        let mut page = Page { bytes: out, end: 0 };
+        machine.answer(&mut page, &buf[..held]);
+        send(output, &mut page);
     }
 }

@@ -5,5 +5,7 @@ pub mod chunks;
 pub mod console;
 pub mod drive;
 pub mod reading;
+pub mod replies;
 pub mod scan;
+pub mod session;
 pub mod writing;

@@ -1,7 +1,8 @@
-// Writing answer lines into lent bytes. What does not fit is cut off at the end of the room, so no public function asks for any.
+// Writing answer lines into lent bytes. What does not fit is cut off at their end, so no public function asks for room.
 
 ghost use Rattle.std.specs.Prelude.{◌≡◌, ◌+◌, ◌≤◌, ◌<◌, min, [], ◌∷◌, length, drop};
-ghost use Rattle.script.specs.Answers.{decimal, spaced, phrase, answer_line, Laid};
+ghost use Rattle.script.specs.Answers.{decimal, spaced, phrase, answer_line};
+ghost use Rattle.script.specs.Pages.{same_bytes, Written};
 
 fn glyph(d: u64) -> u8
     requires { d < 10 }
@@ -35,67 +36,75 @@ fn text_end(room: usize, at: usize, bytes: usize) -> usize
     at.saturating_add(bytes).min(room)
 }
 
-// Writes a text at `at`, and answers where it ends.
-pub fn write_text(out: &mut [u8], at: usize, text: &[u8]) -> usize
-    ensures { Laid out.old at text.now out.new result }
-{
-    let end = text_end(out.len(), at, text.len());
-    if at < end {
-        out[at..end].copy_from_slice(&text[..end - at]);
+// Lent bytes that are written from the front, and where the text in them ends.
+#[derive(Drop)]
+pub struct Page<'a> {
+    pub bytes: &'a mut [u8],
+    pub end: usize,
+}
+
+impl Page<'_> {
+    // Writes a text.
+    pub fn text(&mut self, text: &[u8])
+        ensures bytes { same_bytes self.old self.new }
+        ensures written { Written self.old text.now self.new }
+    {
+        let at = self.end;
+        let end = text_end(self.bytes.len(), at, text.len());
+        if at < end {
+            self.bytes[at..end].copy_from_slice(&text[..end - at]);
+        }
+        self.end = end;
     }
-    end
-}
 
-// Writes a number's decimal digits at `at`, and answers where they end.
-pub fn write_number(out: &mut [u8], at: usize, n: u64) -> usize
-    ensures { Laid out.old at (decimal n) out.new result }
-{
-    let mut digits = [0u8; 20];
-    let from = spell(n, &mut digits);
-    write_text(out, at, &digits[from..])
-}
-
-// Writes a space and a number.
-fn write_spaced(out: &mut [u8], at: usize, n: u64) -> usize
-    ensures { Laid out.old at (32 ∷ decimal n) out.new result }
-{
-    let next = write_text(out, at, b" ");
-    write_number(out, next, n)
-}
-
-// Writes numbers, each after a space.
-fn write_numbers(out: &mut [u8], at: usize, ns: &[u64]) -> usize
-    ensures { Laid out.old at (spaced ns.now) out.new result }
-{
-    let mut end = text_end(out.len(), at, 0);
-    for n in ns {
-        end = write_spaced(out, end, *n);
+    // Writes a number's decimal digits.
+    pub fn number(&mut self, n: u64)
+        ensures bytes { same_bytes self.old self.new }
+        ensures written { Written self.old (decimal n) self.new }
+    {
+        let mut digits = [0u8; 20];
+        let from = spell(n, &mut digits);
+        self.text(&digits[from..]);
     }
-    end
-}
 
-// Writes a text and numbers, each after a space.
-fn write_phrase(out: &mut [u8], at: usize, text: &[u8], ns: &[u64]) -> usize
-    ensures { Laid out.old at (phrase text.now ns.now) out.new result }
-{
-    let next = write_text(out, at, text);
-    write_numbers(out, next, ns)
-}
+    // Writes a space and a number.
+    fn spaced(&mut self, n: u64)
+        ensures bytes { same_bytes self.old self.new }
+        ensures written { Written self.old (32 ∷ decimal n) self.new }
+    {
+        self.text(b" ");
+        self.number(n);
+    }
 
-// Writes an answer line: two phrases, a last text and the line feed.
-pub fn write_line(
-    out: &mut [u8],
-    at: usize,
-    head: &[u8],
-    ns: &[u64],
-    tail: &[u8],
-    ms: &[u64],
-    last: &[u8],
-) -> usize
-    ensures { Laid out.old at (answer_line head.now ns.now tail.now ms.now last.now) out.new result }
-{
-    let one = write_phrase(out, at, head, ns);
-    let two = write_phrase(out, one, tail, ms);
-    let three = write_text(out, two, last);
-    write_text(out, three, b"\n")
+    // Writes numbers, each after a space.
+    fn numbers(&mut self, ns: &[u64])
+        ensures bytes { same_bytes self.old self.new }
+        ensures written { Written self.old (spaced ns.now) self.new }
+    {
+        // No bytes, so that the text ends within the page where there is no number, too.
+        self.text(b"");
+        for n in ns {
+            self.spaced(*n);
+        }
+    }
+
+    // Writes a text and numbers, each after a space.
+    fn phrase(&mut self, text: &[u8], ns: &[u64])
+        ensures bytes { same_bytes self.old self.new }
+        ensures written { Written self.old (phrase text.now ns.now) self.new }
+    {
+        self.text(text);
+        self.numbers(ns);
+    }
+
+    // Writes an answer line: two phrases, a last text and the line feed.
+    pub fn line(&mut self, head: &[u8], ns: &[u64], tail: &[u8], ms: &[u64], last: &[u8])
+        ensures bytes { same_bytes self.old self.new }
+        ensures written { Written self.old (answer_line head.now ns.now tail.now ms.now last.now) self.new }
+    {
+        self.phrase(head, ns);
+        self.phrase(tail, ms);
+        self.text(last);
+        self.text(b"\n");
+    }
 }

@@ -1,5 +1,5 @@
-// One list of cells, linked both ways: word 4 is the next cell, word 5 the one before. No cell, 4096, stands for the list itself: what follows it is
-// the first cell, what precedes it the last. So front, middle, back and only cell are one case.
+// One list of cells, linked both ways: word 4 is the next cell, word 5 the one before. No cell, 4096, stands for the list itself: what
+// follows it is the first cell, what precedes it the last. So front, middle, back and only cell are one case.
 
 ghost use Rattle.std.specs.Prelude.{cond, ◌≡◌, eqb};
 ghost use Rattle.cells.specs.Stack.{no_cell};
@@ -15,28 +15,16 @@ pub struct Ends {
     pub last: u64,
 }
 
-// Lets b be what follows a, and says what follows the list itself.
-fn follow(w: &mut [u64], first: u64, a: u64, b: u64) -> u64
-    ensures words { w.new ≡ cond (eqb a no_cell) w.old (put_word w.old a 4 b) }
-    ensures first { result ≡ cond (eqb a no_cell) b first }
+// Lets d stand beside c, on the side that word f tells, and says which cell is the list's own end on that side, where `end` was.
+fn link(w: &mut [u64], end: u64, f: u64, c: u64, d: u64) -> u64
+    ensures words { w.new ≡ cond (eqb c no_cell) w.old (put_word w.old c f d) }
+    ensures end { result ≡ cond (eqb c no_cell) d end }
 {
-    if a == 4096 {
-        return b;
+    if c == 4096 {
+        return d;
     }
-    put(w, a, 4, b);
-    first
-}
-
-// Lets a be what precedes b, and says what precedes the list itself.
-fn precede(w: &mut [u64], last: u64, a: u64, b: u64) -> u64
-    ensures words { w.new ≡ cond (eqb b no_cell) w.old (put_word w.old b 5 a) }
-    ensures last { result ≡ cond (eqb b no_cell) a last }
-{
-    if b == 4096 {
-        return a;
-    }
-    put(w, b, 5, a);
-    last
+    put(w, c, f, d);
+    end
 }
 
 // Lets b follow a.
@@ -45,8 +33,8 @@ fn relink(w: &mut [u64], e: Ends, a: u64, b: u64) -> Ends
     ensures words { w.new ≡ (relinked w.old e a b).words }
     ensures ends { result ≡ (relinked w.old e a b).ends }
 {
-    let first = follow(w, e.first, a, b);
-    let last = precede(w, e.last, a, b);
+    let first = link(w, e.first, 4, a, b);
+    let last = link(w, e.last, 5, b, a);
     Ends { first, last }
 }
 

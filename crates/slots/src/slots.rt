@@ -1,5 +1,5 @@
-// The slots' lists, by number: their ends in two arrays of 16 bits, and a mark for each slot whose list is not empty, 64 to a word. Total: where there
-// is no slot i nothing is done.
+// The slots' lists, by number: their ends in two arrays of 16 bits, and a mark for each slot whose list is not empty, 64 to a word. Total:
+// where there is no slot i nothing is done.
 
 ghost use Rattle.std.specs.Prelude.{◌/◌, ◌%◌, ◌<◌, cond, [], ◌≡◌, eqb, length, get_or, set};
 ghost use Rattle.cells.specs.Stack.{no_cell};
@@ -128,8 +128,9 @@ pub fn first_marked(marks: &[u64]) -> Option<u64>
     None
 }
 
-// All lists of the slots in lent slices: the cells' words, the first and the last cell of each slot, and a word of marks for each level. Arrays beside
-// each other and cells by number, since so a wheel's memory is lent, without a heap.
+// All lists of the slots in lent slices: the cells' words, the first and the last cell of each slot, and a word of marks for each level.
+// Arrays beside each other and cells by number, since so a wheel's memory is lent, without a heap. Each contract over them says
+// `same_slices`, since no type can say that a lent slice is still the one that was lent.
 #[derive(Drop)]
 pub struct Lists<'a> {
     pub words: &'a mut [u64],
@@ -157,7 +158,8 @@ impl Lists<'_> {
         ends_of(self.first, self.last, i)
     }
 
-    // Cell c joins slot i at the tail, and the slot is marked.
+    // Cell c joins slot i at the tail, and the slot is marked. Not one with `leave_slot`: only the ends are set alike, by `set_ends`; what
+    // the list does and what becomes of the mark differ.
     #[tactic(auto, unfolding(crate::specs::Rings::join_slot, crate::specs::Rings::has_slot, crate::specs::Rings::ends_of, crate::specs::Rings::with_ring))]
     pub fn join_slot(&mut self, i: u64, c: u64)
         ensures slices { same_slices self.old self.new }

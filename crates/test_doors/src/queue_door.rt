@@ -38,7 +38,7 @@ fn begin(w: &mut [u64], h: &mut Head, arity: u64) -> Result<(), Refusal> {
     Ok(())
 }
 
-// The checked call of this number: 0 set-up, 1 put, 2 rekey, 3 remove, 4 take, else first.
+// The checked call of this number, which is how C names it: 0 set-up, 1 put, 2 rekey, 3 remove, 4 take, else first.
 fn run_checked(w: &mut [u64], h: &mut Head, call: u64, a: u64, b: u64, c: u64) -> Told {
     let at = Handle { cell: a, ticket: b };
     match call {
@@ -51,7 +51,7 @@ fn run_checked(w: &mut [u64], h: &mut Head, call: u64, a: u64, b: u64, c: u64) -
     }
 }
 
-// The quick call of this number: 17 put, 18 rekey, 19 remove, 20 take, else first.
+// The quick call of this number, as C names it: 17 put, 18 rekey, 19 remove, 20 take, else first.
 fn run_quick(w: &mut [u64], h: &mut Head, call: u64, a: u64, b: u64, c: u64) -> Told {
     let at = Handle { cell: a, ticket: b };
     match call {

@@ -8,8 +8,8 @@ fn found(entry: Found, moves: u64) -> Told {
     Told {
         kind: 1,
         a: entry.key,
-        b: entry.cell,
-        c: entry.ticket,
+        b: entry.at.cell,
+        c: entry.at.ticket,
         d: entry.load,
         e: moves,
     }

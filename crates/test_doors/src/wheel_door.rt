@@ -68,7 +68,7 @@ fn begin(w: &mut [u64], h: &mut Head, start: u64) -> Result<(), Refusal> {
     Ok(())
 }
 
-// The checked call of this number: 0 set-up, 1 arm, 2 move, 3 cancel, 4 advance, else next wake.
+// The checked call of this number, which is how C names it: 0 set-up, 1 arm, 2 move, 3 cancel, 4 advance, else next wake.
 fn run_checked(
     w: &mut [u64],
     out: &mut [u64],
@@ -89,7 +89,7 @@ fn run_checked(
     }
 }
 
-// The quick call of this number: 17 arm, 18 move, 19 cancel, 20 advance, else next wake.
+// The quick call of this number, as C names it: 17 arm, 18 move, 19 cancel, 20 advance, else next wake.
 fn run_quick(
     w: &mut [u64],
     out: &mut [u64],

@@ -6,12 +6,10 @@ use mathlib.Core.List.{List, [], ◌∷◌}
 use mathlib.Core.Path.{◌≡◌, refl, sym, ap, ◌∙◌}
 use lib.ListN.{length, get_or, drop, length-drop}
 use lib.Seq.{drop-drop}
-use mathlib.Core.Bool.{cond}
-use lib.Dec.{eqb}
 use Rattle.std.specs.Prelude.{Result, Ok, Err}
-use Rattle.cells.specs.Causes.{number_of}
+use Rattle.cells.specs.Causes.{number_of, refusal_of}
 use Rattle.cells.specs.declared.refusal.Refusal.{Refusal}
-use Rattle.cells.specs.declared.refusal.Refusal.TheVariants as refusal
+use Rattle.cells.proofs.Causes.{refusal-back}
 use Rattle.cells.proofs.Cases.{test, clash}
 use Rattle.meaning.specs.Calls.{Shown, Answer, Refused, is_refused, report_of}
 use Rattle.slots.specs.Rings.{Lists}
@@ -90,35 +88,9 @@ reports-same k k' xs ys out l r p q =
     ap (λ (n : ℕ). drop (n * 4) ys) same ∙ q ∙ ap (λ (n : ℕ). drop (n * 4) out) (sym same) in
     (same, outputs-same k xs ys l there (p ∙ sym rest))
 
--- The cause of a number.
-cause_of : ℕ → Refusal
-cause_of i =
-    cond (eqb i 1) refusal.BadSize
-    (cond (eqb i 2) refusal.BadArity
-    (cond (eqb i 3) refusal.NotAfter
-    (cond (eqb i 4) refusal.Behind
-    (cond (eqb i 5) refusal.Beyond
-    (cond (eqb i 6) refusal.Full
-    (cond (eqb i 7) refusal.Stale
-    (cond (eqb i 8) refusal.Spent
-    (cond (eqb i 9) refusal.Unsound refusal.Empty))))))))
-
-numbered : (r : Refusal) → cause_of (number_of r) ≡ r
-unfolding cause_of
-numbered refusal.BadSize = refl
-numbered refusal.BadArity = refl
-numbered refusal.NotAfter = refl
-numbered refusal.Behind = refl
-numbered refusal.Beyond = refl
-numbered refusal.Full = refl
-numbered refusal.Stale = refl
-numbered refusal.Spent = refl
-numbered refusal.Unsound = refl
-numbered refusal.Empty = refl
-
 -- Two causes of one number are one.
 one-cause : (r s : Refusal) → number_of r ≡ number_of s → r ≡ s
-one-cause r s e = sym (numbered r) ∙ ap cause_of e ∙ numbered s
+one-cause r s e = sym (refusal-back r) ∙ ap refusal_of e ∙ refusal-back s
 
 -- The number of a refusal that is told.
 refusal_in : Answer → ℕ

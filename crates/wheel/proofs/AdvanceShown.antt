@@ -111,7 +111,7 @@ is_done broken = false
 
 -- The number fired, clock and moves are answered with done or more, as the turns ended.
 told-cases : (end : Option HowEnded) (t : Turn) (out : List ℕ) (o : Report) → ending_of end ≡ cond o.done done more
-    → records_in t.fired out ≡ o.fired → t.clock ≡ o.clock → t.moves ≡ o.moves
+    → records_in t.fired out ≡ o.fired → t.dial.clock ≡ o.clock → t.moves ≡ o.moves
     → (told_advance (ended_with end t) out ≡ calls.Advanced o) × (written (ended_with end t) ≡ t.fired)
 unfolding told_advance told reported answers.report ended_with written ending_of is_done has_ended
 told-cases end t out o e f c v = go end o.done e
@@ -127,11 +127,7 @@ told-cases end t out o e f c v = go end o.done e
 
 -- The numbers with which the turns begin: nothing is fired yet, and nothing is moved.
 abbrev pub start_of : Dial → Turn
-start_of d = record { clock = d.clock; due = d.due; store = d.store; fired = 0; moves = 0 }
-
--- The head's numbers that a turn leaves.
-abbrev pub dial_of : Turn → Dial
-dial_of t = record { clock = t.clock; due = t.due; store = t.store }
+start_of d = record { dial = d; fired = 0; moves = 0 }
 
 module _ (w first last marks out : List ℕ) (d : Dial) (target : ℕ) where
   -- What an advance begins with.
@@ -203,7 +199,7 @@ module _ (w first last marks out : List ℕ) (d : Dial) (target : ℕ) where
 
       -- So the call is done: its answer is the model's, and the next model is shown.
       left-done : Done (Advance target (length out / 4)) m (told_advance (ended_answer r) out')
-          (lists_of w' first' last' marks' r.turn.due) (dial_of r.turn)
+          (lists_of w' first' last' marks' r.turn.dial.due) r.turn.dial
       unfolding step
       left-done = record { answer = answered.0; next = left-advanced.shows }
 
@@ -218,7 +214,7 @@ pub advance-promised : (w first last marks out w' first' last' marks' out' : Lis
     → target ≤ 68719476735 → d.clock ≤ target
     → ended_of w' first' last' marks' out' r ≡ advance_turns target (state_of w first last marks out (start_of d))
     → length out' ≡ length out → answer ≡ ended_answer r
-    → Advances target (lists_of w first last marks d.due) d out answer (lists_of w' first' last' marks' r.turn.due) (dial_of r.turn) out'
+    → Advances target (lists_of w first last marks d.due) d out answer (lists_of w' first' last' marks' r.turn.dial.due) r.turn.dial out'
 advance-promised w first last marks out w' first' last' marks' out' d target r answer most forward e same a =
     let framed : Framed w w' = subst (λ (x : Ended). Framed w x.state.lists.words) (sym e) (any-framed w first last marks out d target) in
     rw a

@@ -40,11 +40,6 @@ framed-promise call l d a l' d' f shown = record { size = f.size; tail = f.tail;
 pub stays : (call : Call) (l : Lists) (d : Dial) (a : Answer) → ((m : Plain) → DialShows l d m → Done call m a l d) → Promise call l d a l d
 stays call l d a shown = framed-promise call l d a l d (framed-none l.words) shown
 
--- A promise is one of the lists, however they are held.
-pub held-promise : (call : Call) (l : Lists) (d : Dial) (a : Answer) (l' l'' : Lists) (d' : Dial) → Promise call l d a l' d' → l' ≡ l''
-    → Promise call l d a l'' d'
-held-promise call l d a l' l'' d' p e = subst (λ (x : Lists). Promise call l d a x d') e p
-
 -- What a call did is told by its lists, its clock and its store.
 done-same : (call : Call) (m : Plain) (a : Answer) (l l' : Lists) (d d' : Dial) → l ≡ l' → d.clock ≡ d'.clock → d.store ≡ d'.store
     → Done call m a l d → Done call m a l' d'

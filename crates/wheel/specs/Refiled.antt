@@ -27,8 +27,8 @@ refiled_lists l t c order e =
 
 -- "The answer also gives the number fired, the clock and the moves"; turns that ran out are broken memory's.
 unfoldable pub ended_with : Option HowEnded → Turn → Result Advanced Refusal
-ended_with (Some how.Done) t = Ok (advanced.Done t.fired t.clock t.moves)
-ended_with (Some how.More) t = Ok (advanced.More t.fired t.clock t.moves)
+ended_with (Some how.Done) t = Ok (advanced.Done t.fired t.dial.clock t.moves)
+ended_with (Some how.More) t = Ok (advanced.More t.fired t.dial.clock t.moves)
 ended_with None t = Err refusal.Unsound
 
 unfoldable pub ended_answer : TurnsEnded → Result Advanced Refusal

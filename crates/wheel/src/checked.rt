@@ -1,4 +1,4 @@
-// The checked calls: each audits first, and refuses with 9 what breaks the written rules.
+// The checked calls: each audits first, and refuses as unsound what breaks the written rules.
 
 ghost use Rattle.std.specs.Prelude.{◌≡◌, Ok};
 ghost use Rattle.meaning.specs.Calls.{Arm, Move, Cancel, NextWake};
@@ -11,7 +11,7 @@ use crate::quick;
 use cells::refusal::Refusal;
 use cells::store::Handle;
 
-// Audits before a call.
+// Audits before a call. The queue's `sound` asks another head of other rules.
 fn audited(w: &[u64], h: &Head) -> Result<(), Refusal>
     ensures { Audited h.now w.now result }
 {

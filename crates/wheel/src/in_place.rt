@@ -1,5 +1,5 @@
 // The calls themselves, over lent words and arrays and the head's numbers: nothing here copies an array.
-// Memory that was never audited may hold anything; an advance whose turns run out there is refused with 9.
+// Memory that was never audited may hold anything; an advance whose turns run out there is refused as unsound.
 
 ghost use Rattle.std.specs.Prelude.{ℕ, List, ◌≡◌};
 ghost use Rattle.meaning.specs.Calls.{Arm, Move, Cancel, NextWake};
@@ -19,7 +19,7 @@ use dial::turns::advance_turns;
 use places::wake_tick;
 use slots::slots::{Lists, first_marked};
 
-// Whether a timer may get this deadline: refused with 5 above the last tick, 3 at or below the clock.
+// Whether a timer may get this deadline: refused above the last tick, and at or below the clock.
 #[tactic(auto, unfolding(crate::specs::Refiled::timely, places::specs::Ticks::last_tick))]
 fn in_time(clock: u64, deadline: u64) -> Result<(), Refusal>
     ensures { result ≡ timely clock deadline }
@@ -33,7 +33,7 @@ fn in_time(clock: u64, deadline: u64) -> Result<(), Refusal>
     Ok(())
 }
 
-// Arms a timer: refused with 5 above the last tick, 3 at or below the clock, 6 where no cell is free, 8 once the counter is spent.
+// Arms a timer: refused above the last tick, at or below the clock, where no cell is free, and once the counter is spent.
 pub fn arm(lists: &mut Lists, d: &mut Dial, deadline: u64, load: u64) -> Result<Handle, Refusal>
     ensures slices { same_slices lists.old lists.new }
     ensures promise { Promise (Arm deadline load) (lists_in lists.old d.old.due) d.old (told_arm result)
@@ -45,7 +45,7 @@ pub fn arm(lists: &mut Lists, d: &mut Dial, deadline: u64, load: u64) -> Result<
     Ok(at)
 }
 
-// Cancels the timer that the handle names, and hands its load back: refused with 7 where it names none.
+// Cancels the timer that the handle names, and hands its load back: refused as stale where it names none.
 pub fn cancel(lists: &mut Lists, d: &mut Dial, at: Handle) -> Result<u64, Refusal>
     ensures slices { same_slices lists.old lists.new }
     ensures promise { Promise (Cancel at.cell at.ticket) (lists_in lists.old d.old.due) d.old (told_cancel result)
@@ -79,8 +79,8 @@ fn refile(lists: &mut Lists, d: &mut Dial, c: u64, order: u64, deadline: u64)
     d.due = join_at(lists, left, list_of(d.clock, deadline), c);
 }
 
-// Moves the timer that the handle names: refused with 7 where it names none, 5 above the last tick, 3 at or below the clock,
-// 8 once the counter is spent.
+// Moves the timer that the handle names: refused as stale where it names none, then above the last tick, at or below the clock,
+// and once the counter is spent.
 pub fn move_to(lists: &mut Lists, d: &mut Dial, at: Handle, deadline: u64) -> Result<(), Refusal>
     ensures slices { same_slices lists.old lists.new }
     ensures promise { Promise (Move at.cell at.ticket deadline) (lists_in lists.old d.old.due) d.old (told_move result)
@@ -113,28 +113,23 @@ pub fn next_wake(marks: &[u64], d: &Dial) -> Option<u64>
 fn told(ended: TurnsEnded) -> Result<Advanced, Refusal>
     ensures { result ≡ ended_answer ended }
 {
-    let Turn {
-        clock,
-        fired,
-        moves,
-        ..
-    } = ended.turn;
+    let Turn { dial, fired, moves } = ended.turn;
     match ended.ending {
         Some(HowEnded::Done) => Ok(Advanced::Done {
             fired,
-            clock,
+            clock: dial.clock,
             moves,
         }),
         Some(HowEnded::More) => Ok(Advanced::More {
             fired,
-            clock,
+            clock: dial.clock,
             moves,
         }),
         None => Err(Refusal::Unsound),
     }
 }
 
-// Advances the clock to the target, or to where the output is full and more is due: refused with 5 above the last tick, 4 below the clock.
+// Advances the clock to the target, or to where the output is full and more is due: refused above the last tick, and below the clock.
 pub fn advance(
     lists: &mut Lists,
     d: &mut Dial,
@@ -152,18 +147,11 @@ pub fn advance(
         return Err(Refusal::Behind);
     }
     let start = Turn {
-        clock: d.clock,
-        due: d.due,
-        store: d.store,
+        dial: *d,
         fired: 0,
         moves: 0,
     };
     let ended = advance_turns(lists, out, start, target);
-    let turn = ended.turn;
-    *d = Dial {
-        clock: turn.clock,
-        due: turn.due,
-        store: turn.store,
-    };
+    *d = ended.turn.dial;
     told(ended)
 }

@@ -5,7 +5,7 @@ ghost use Rattle.wheel.specs.SetUps.{empty_head, set_up_answer, set_up_words};
 
 use crate::head::{Dial, Head};
 use cells::refusal::Refusal;
-use cells::store::{Store, set_up as set_up_cells};
+use cells::store::{Store, cells_in, set_up as set_up_cells};
 use slots::ring::Ends;
 
 // A head with empty lists.
@@ -28,17 +28,14 @@ fn empty_head(clock: u64, store: Store) -> Head
     }
 }
 
-// Sets a wheel up in the lent words, with the clock at start: refused with 1 unless there are 1 to 4096 cells, then with 5 for a start
+// Sets a wheel up in the lent words, with the clock at start: refused for its size unless there are 1 to 4096 cells, then for a start
 // above the last tick.
-#[tactic(auto, unfolding(crate::specs::SetUps::set_up_answer, crate::specs::SetUps::set_up_words, crate::specs::SetUps::set_up_causes, meaning::specs::Refusals::first_of, meaning::specs::Refusals::bad_size, meaning::specs::Refusals::beyond, cells::specs::Store::wrong_size, cells::specs::Store::set_up_answer, cells::specs::Store::set_up_words, places::specs::Ticks::last_tick, cells::specs::Causes::refusal_of))]
+#[tactic(auto, unfolding(crate::specs::SetUps::set_up_answer, crate::specs::SetUps::set_up_words, crate::specs::SetUps::set_up_causes, meaning::specs::Refusals::first_of, meaning::specs::Refusals::bad_size, meaning::specs::Refusals::beyond, cells::specs::Store::cells_answer, cells::specs::Store::set_up_answer, cells::specs::Store::set_up_words, places::specs::Ticks::last_tick, cells::specs::Causes::refusal_of))]
 pub fn set_up(w: &mut [u64], start: u64) -> Result<Head, Refusal>
     ensures answer { result ≡ set_up_answer w.old start }
     ensures words { w.new ≡ set_up_words w.old start }
 {
-    let n = w.len() / 8;
-    if n == 0 || n > 4096 {
-        return Err(Refusal::BadSize);
-    }
+    cells_in(w)?;
     if start > 68719476735 {
         return Err(Refusal::Beyond);
     }

@@ -54,18 +54,16 @@ impl Sums {
     }
 }
 
-// Word j, or 0 where there is none.
+// Word j, or 0 where there is none. What mixes, reads, writes and keeps here has a twin in `queue_doors`: no crate sees a static library, and a
+// crate of these few lines of a benchmark would promise nothing and be no plainer.
 fn read(w: &[u64], j: u64) -> u64 {
-    if j < w.len() as u64 {
-        return w[j as usize];
-    }
-    0
+    w.get(j as usize).copied().unwrap_or(0)
 }
 
 // Writes word j, where there is one.
 fn write(w: &mut [u64], j: u64, x: u64) {
-    if j < w.len() as u64 {
-        w[j as usize] = x;
+    if let Some(word) = w.get_mut(j as usize) {
+        *word = x;
     }
 }
 
@@ -127,12 +125,9 @@ fn run_one(
     }
 }
 
-// Operation i of a trace, of two words each: the slot times 4 with the kind (0 arm, 1 cancel, 2 move, 3 advance), then the tick, as C writes it.
-fn operation_at(trace: &[u64], i: u64) -> Operation {
-    let j = i % 4611686018427387904 * 2;
-    let word = read(trace, j);
+// The operation of two words, as C writes them: the slot times 4 with the kind (0 arm, 1 cancel, 2 move, 3 advance), then the tick.
+fn operation_of(word: u64, tick: u64) -> Operation {
     let slot = word / 4;
-    let tick = read(trace, j + 1);
     match word % 4 {
         0 => Operation::Arm {
             slot,
@@ -156,8 +151,9 @@ fn run_all(
     d: &mut Dial,
 ) -> u64 {
     let mut s = Sums { sum: 0, loads: 0 };
-    for i in 0..(trace.len() / 2) as u64 {
-        run_one(lists, out, handles, d, &mut s, operation_at(trace, i), i);
+    for (load, words) in (0..).zip(trace.chunks_exact(2)) {
+        let o = operation_of(words[0], words[1]);
+        run_one(lists, out, handles, d, &mut s, o, load);
     }
     s.both()
 }

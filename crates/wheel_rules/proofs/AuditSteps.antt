@@ -3,50 +3,22 @@
 use Prim.Native.Nat.{ℕ, ◌+◌, ◌-◌, ◌≤◌, ◌<◌}
 use native.Mathlib.Omega.{arith}
 use mathlib.Core.Bool.{Bool, true, false}
-use mathlib.Core.List.{List, [], ◌∷◌}
-use mathlib.Core.Path.{◌≡◌, refl, sym, ap, ◌∙◌}
-use lib.ListN.{length, get_or, take, drop, length-drop}
-use lib.Seq.{drop-cons}
+use mathlib.Core.List.{List}
+use mathlib.Core.Path.{◌≡◌, sym, ap, ◌∙◌}
+use lib.ListN.{length, take}
 use borrow.Author.Tests.{le-leb, eq-eqb, ne_eqb}
 use Rattle.cells.specs.Stack.{no_cell, frees}
 use Rattle.audits.specs.AuditTests.{all_below}
 use Rattle.cell_sort.specs.Sorted.{sorted_list}
-use Rattle.cell_sort.proofs.CellOrder.{pairs}
 use Rattle.cell_sort.proofs.CellSort.{list-fits}
 use Rattle.slots.specs.declared.ring.Ends.{Ends}
-use Rattle.wheel_rules.specs.AuditTests.{noted, list_test, walk_test, rise_test, neighbours_rise, order_test, sort_test, lists_test, WalkFound}
+use Rattle.wheel_rules.specs.AuditTests.{noted, list_test, walk_test, neighbours_rise, order_test, sort_test, lists_test, WalkFound}
 use Rattle.wheel_rules.specs.declared.walk.Noted.{Noted}
 use Rattle.std.specs.Option.{is_some}
 use Rattle.std.specs.declared.option.Option.{Option}
 use Rattle.std.specs.declared.option.Option.TheVariants.{None, Some}
 use Rattle.wheel_rules.proofs.Noting.{found-few, walk-many, same-front}
 use Rattle.wheel_rules.proofs.Climbing.{climbs-order}
-
--- Neighbours from i - 1 on, by whether those at i rise.
-module _ (w a : List ℕ) (i : ℕ) (some : 0 < i) where
-  -- They do not rise, so not all neighbours do.
-  pub rise-fails : i < length a → neighbours_rise w (drop (i - 1) a) ≡ neighbours_rise w a → rise_test w (get_or a (i - 1) 0) (get_or a i 0) ≡ false
-      → false ≡ neighbours_rise w a
-  unfolding neighbours_rise
-  rise-fails h v e = sym (rw (pairs w 2 a i some h, e) refl) ∙ v
-
-  -- They rise, so that the rest decides.
-  pub rise-step : i < length a → neighbours_rise w (drop (i - 1) a) ≡ neighbours_rise w a → rise_test w (get_or a (i - 1) 0) (get_or a i 0) ≡ true
-      → neighbours_rise w (drop (i + 1 - 1) a) ≡ neighbours_rise w a
-  unfolding neighbours_rise
-  rise-step h v e =
-      let back : i + 1 - 1 ≡ i = omega arith in
-      let on : neighbours_rise w (drop (i - 1) a) ≡ neighbours_rise w (drop i a) = rw (pairs w 2 a i some h, drop-cons a i 0 h, e) in
-      rw back (sym on ∙ v)
-
-  -- No two neighbours are left.
-  pub rise-end : length a ≤ i → neighbours_rise w (drop (i - 1) a) ≡ neighbours_rise w a → true ≡ neighbours_rise w a
-  rise-end h v = sym (short (drop (i - 1) a) (simp length-drop (omega arith))) ∙ v
-    where
-      short : (xs : List ℕ) → length xs ≤ 1 → neighbours_rise w xs ≡ true
-      short [] k = unfold neighbours_rise in refl
-      short (x ∷ []) k = unfold neighbours_rise in refl
-      short (x ∷ (y ∷ ys)) k = absurd (omega arith)
 
 -- The lists, by what a walk through them found.
 module _ (w : List ℕ) (n t : ℕ) (ends : ℕ → Ends) where

@@ -42,12 +42,7 @@ fn mark_sound(first: &[u16], marks: &[u64], i: u64) -> bool
 fn marks_sound(first: &[u16], marks: &[u64]) -> bool
     ensures { result ≡ all_below 384 (mark_test first.now marks.now) }
 {
-    for i in 0..384 {
-        if !mark_sound(first, marks, i) {
-            return false;
-        }
-    }
-    true
+    (0..384).all(|i| mark_sound(first, marks, i))
 }
 
 // Whether the lists are sound, of cells of which so many are free: each by itself, all cells in use in them, and equal deadlines by rising
@@ -63,7 +58,8 @@ fn lists_sound(w: &[u64], first: &[u16], last: &[u16], d: Dial, free: u64) -> bo
     d.store.cells - got.count == free && (got.rise || sorted_rise(w, first, last, d))
 }
 
-// Whether head and memory keep to the rules, the arrays lent.
+// Whether head and memory keep to the rules, the arrays lent: the slices apart, as the wheel's audit has them from a head. The walk's
+// `Lent` holds them together below.
 pub fn lent_sound(w: &[u64], first: &[u16], last: &[u16], marks: &[u64], d: Dial) -> bool
     ensures { (result ≡ true) ↔ WheelSound (lists_of w.now first.now last.now marks.now d.due) d }
 {

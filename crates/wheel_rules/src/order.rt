@@ -18,12 +18,7 @@ fn pair_rises(w: &[u64], a: u16, b: u16) -> bool
 fn all_rise(w: &[u64], a: &[u16]) -> bool
     ensures { result ≡ neighbours_rise w.now a.now }
 {
-    for i in 1..a.len() {
-        if !pair_rises(w, a[i - 1], a[i]) {
-            return false;
-        }
-    }
-    true
+    a.is_empty() || a.iter().zip(&a[1..]).all(|(x, y)| pair_rises(w, *x, *y))
 }
 
 // Whether neighbours rise once the cells a are sorted by deadline, with spare room of the same length.

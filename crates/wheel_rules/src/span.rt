@@ -5,7 +5,8 @@ ghost use Rattle.wheel_rules.specs.Spans.{in_span, SpanOf};
 
 use places::{slot, wake_tick};
 
-// The ticks from low to high: none where low is the higher. Two bounds and no Option: a tick is asked for by two comparisons in every list.
+// The ticks from low to high: none where low is the higher. Two bounds and no Option or range: `SpanOf` and the public functions speak of
+// them.
 #[derive(Clone, Copy)]
 pub struct Span {
     pub low: u64,
@@ -17,14 +18,7 @@ fn unit_of(p: u64) -> u64
     requires { p < 6 }
     ensures { result ≡ 64 ^ p }
 {
-    match p {
-        0 => 1,
-        1 => 64,
-        2 => 4096,
-        3 => 262144,
-        4 => 16777216,
-        _ => 1073741824,
-    }
+    1 << (6 * p)
 }
 
 // The ticks of slot i: from its wake tick on, or none where the clock has its digit on that level, or a higher one.
@@ -65,5 +59,5 @@ pub fn span_of(clock: u64, i: u64) -> Span
 pub fn in_span(s: Span, e: u64) -> bool
     ensures { result ≡ in_span s e }
 {
-    (s.low <= e) & (e <= s.high)
+    (s.low..=s.high).contains(&e)
 }

@@ -1,4 +1,5 @@
-// The walk along the wheel's lists: each is followed from its first cell, as far as its cells may stand there, and its cells are noted.
+// The walk along the wheel's lists: each is followed from its first cell, as far as its cells may stand there, and its cells are noted, cast
+// and not converted, since their bound is at hand. What the private functions require of cells and rooms, the public ones test or make.
 
 ghost use Rattle.std.specs.Prelude.{ℕ, ◌≤◌, cond, ◌&&◌, ◌≡◌, eqb, length};
 ghost use Rattle.std.specs.declared.option.Option.TheVariants.{None, Some};
@@ -20,7 +21,7 @@ use dial::state::Dial;
 use slots::ring::Ends;
 use slots::slots::ends_of;
 
-// What a walk found along lists that are sound: how many cells, and whether order numbers rise along each list.
+// What a walk found along lists that are sound: how many cells, and whether order numbers rise along each list, a finding of its own.
 #[derive(Clone, Copy)]
 pub struct Noted {
     pub count: u64,
@@ -62,7 +63,7 @@ fn walk_list(w: &[u64], n: u64, clock: u64, i: u64, e: Ends, m: u64, a: &mut [u1
         a[k as usize] = c as u16;
         let before = order;
         order = get(w, c, 1);
-        rise = rise & (before < order);
+        rise &= before < order;
         p = c;
         c = get(w, c, 4);
     }
@@ -114,7 +115,7 @@ impl Lent<'_> {
         for i in 0..385 {
             let got = self.note_list(i, m, a)?;
             m = got.count;
-            rise = rise & got.rise;
+            rise &= got.rise;
         }
         Some(Noted { count: m, rise })
     }

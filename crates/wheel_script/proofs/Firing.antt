@@ -1,14 +1,14 @@
 -- The lines of fired records, one by one.
 -- Assumes nothing.
-use Prim.Native.Nat.{ℕ, zero, suc, ◌+◌, ◌*◌, min}
+use Prim.Native.Nat.{ℕ, zero, suc, ◌+◌, ◌*◌}
 use native.Mathlib.Omega.{arith}
 use native.Mathlib.Numerals.{add-one}
 use mathlib.Core.List.{List, [], ◌∷◌, ◌++◌, append-nil, append_assoc}
 use mathlib.Core.Path.{◌≡◌, refl, sym, ap, ◌∙◌}
-use lib.ListN.{length, get_or, drop}
+use lib.ListN.{get_or, drop}
 use lib.Seq.{get_or-drop, drop-drop}
 use Rattle.script.specs.Answers.{answer_line, Laid}
-use Rattle.script.proofs.Laying.{laid_as, laid_none, laid-join}
+use Rattle.script.proofs.Laying.{laid_as, laid-join}
 use Rattle.meaning.specs.Calls.{Shown}
 use Rattle.wheel.specs.Answers.{record_in, records_in}
 use Rattle.wheel_script.specs.Texts.{fired_text, fired_lines}
@@ -43,11 +43,11 @@ fired-line out out' at end records i cell ticket deadline load p q r s a =
     (rw (p, q, r, s, get_or-drop (i * 4) records 0 0, get_or-drop (i * 4) records 1 0, get_or-drop (i * 4) records 2 0, get_or-drop (i * 4) records 3 0))
 
 pub lines_start :
-    (out : List ℕ) (at end : ℕ) (records : List ℕ)
-    → end ≡ min (at + 0) (length out)
-    → Laid out at (fired_lines (records_in 0 records)) out end
+    (out out' : List ℕ) (at end : ℕ) (records : List ℕ)
+    → Laid out at [] out' end
+    → Laid out at (fired_lines (records_in 0 records)) out' end
 unfolding fired_lines records_in
-lines_start out at end records e = laid_none out at end e
+lines_start out out' at end records a = a
 
 pub lines-again :
     (out out₁ out₂ : List ℕ) (at r s : ℕ) (records : List ℕ) (i : ℕ)

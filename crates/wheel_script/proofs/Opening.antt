@@ -1,9 +1,9 @@
 -- Set-up of a wheel of 1 to 512 cells by the first line, and the lines after it.
 -- Assumes nothing.
-use Prim.Native.Nat.{ℕ, ◌*◌, ◌/◌, ◌≤◌, ◌<◌, min}
+use Prim.Native.Nat.{ℕ, ◌*◌, ◌/◌, ◌≤◌, ◌<◌}
 use native.Mathlib.Omega.{arith}
 use mathlib.Core.Bool.{false}
-use mathlib.Core.List.{List, ◌++◌}
+use mathlib.Core.List.{List, [], ◌++◌}
 use mathlib.Core.Path.{◌≡◌, refl, ap, subst, ◌∙◌}
 use lib.ListN.{length, take, drop, replicate}
 use lib.Seq.{take_at}
@@ -26,13 +26,13 @@ use Rattle.wheel.specs.declared.head.Head.{Head}
 use Rattle.wheel.proofs.SetUpShown.{set-up-shows}
 use Rattle.script.specs.Answers.{Laid}
 use Rattle.script.specs.Grammar.{read_line}
-use Rattle.script.proofs.Laying.{laid_as, laid_none}
+use Rattle.script.proofs.Laying.{laid_as}
 use Rattle.wheel_script.specs.Commands.{command_of}
 use Rattle.wheel_script.specs.Texts.{bad_text, refused_text, ready_text}
 use Rattle.wheel_script.specs.Spoken.{call_of, Obeyed}
-use Rattle.wheel_script.specs.Runs.{Place, Before, Ended, opening_of, opening_text, opening_place, call_model, printed, following, Blank, Opened, Stands, Reached, Begun, Answered}
-use Rattle.wheel_script.specs.declared.serving.Session.{Session}
-use Rattle.wheel_script.specs.declared.serving.Session.TheVariants as session
+use Rattle.wheel_script.specs.Runs.{Place, Before, Ended, opening_of, opening_text, opening_place, call_model, printed, following, Blank, Opened, Stands, Begun, Answered}
+use Rattle.script.specs.declared.session.Session.{Session}
+use Rattle.script.specs.declared.session.Session.TheVariants as session
 use Rattle.wheel_script.proofs.Speaking.{obeyed-shown}
 
 module _ (w : List ℕ) (n t : ℕ) (long : length w ≡ n * 8) (some : 1 ≤ n) (most : n ≤ 512) where
@@ -121,15 +121,15 @@ pub begun-wrong : (out : List ℕ) (at : ℕ) (w first last marks out' : List �
 unfolding Stands opening_place opening_text
 begun-wrong out at w first last marks out' end laid = record { stands = refl; lines = laid }
 
-module _ (was : Session) (w first last marks line out : List ℕ) (at : ℕ) (p : Place) where
+module _ (was : Session Dial) (w first last marks line out : List ℕ) (at : ℕ) (p : Place) where
   -- The first line.
-  pub answered-first : (now : Session) (w' out' : List ℕ) (end : ℕ) → was ≡ session.Fresh
+  pub answered-first : (now : Session Dial) (w' out' : List ℕ) (end : ℕ) → was ≡ session.Fresh
       → (Blank w first last marks Before → Begun (opening_of (command_of (read_line line))) out at now w' first last marks out' end)
       → Stands was w first last marks p
       → Answered p line out at now w' first last marks out' end
   unfolding Stands following printed
   answered-first now w' out' end e begun s =
-      let blank : Blank w first last marks p = subst (λ (x : Session). Stands x w first last marks p) e s in
+      let blank : Blank w first last marks p = subst (λ (x : Session Dial). Stands x w first last marks p) e s in
       let known = begun (subst (λ (x : Place). Blank w first last marks x) blank.place blank) in
       rw blank.place (record { stands = known.stands; lines = known.lines })
 
@@ -140,7 +140,7 @@ module _ (was : Session) (w first last marks line out : List ℕ) (at : ℕ) (p 
       → Answered p line out at (session.Open n d') (v ++ drop n w) first' last' marks' out' end
   unfolding Stands following printed
   answered-next n d d' v first' last' marks' out' end e long obeyed s =
-      let opened : Opened n d w first last marks p = subst (λ (x : Session). Stands x w first last marks p) e s in
+      let opened : Opened n d w first last marks p = subst (λ (x : Session Dial). Stands x w first last marks p) e s in
       let known = obeyed-shown _ _ _ _ _ _ _ _ (call_of (command_of (read_line line))) opened.model obeyed opened.shows in
       rw opened.place
       (record {
@@ -154,22 +154,9 @@ module _ (was : Session) (w first last marks line out : List ℕ) (at : ℕ) (p 
       })
 
   -- Once the run is over.
-  pub answered-over : (end : ℕ) → was ≡ session.Over → end ≡ min at (length out) → Stands was w first last marks p
-      → Answered p line out at session.Over w first last marks out end
+  pub answered-over : (out' : List ℕ) (end : ℕ) → was ≡ session.Over → Laid out at [] out' end → Stands was w first last marks p
+      → Answered p line out at session.Over w first last marks out' end
   unfolding Stands following printed
-  answered-over end e h s =
-      let over : p ≡ Ended = subst (λ (x : Session). Stands x w first last marks p) e s in
-      rw over (record { stands = refl; lines = laid_none out at end (omega arith) })
-
--- From any place of a run an answered line reaches the next.
-pub reached-on : (was now : Session) (w first last marks line out : List ℕ) (at : ℕ) (w' first' last' marks' out' : List ℕ) (end : ℕ)
-    → Reached was w first last marks
-    → ((p : Place) → Stands was w first last marks p → Answered p line out at now w' first' last' marks' out' end)
-    → Reached now w' first' last' marks'
-reached-on was now w first last marks line out at w' first' last' marks' out' end reached told =
-    record { place = following reached.place line; stands = (told reached.place reached.stands).stands }
-
--- A run begins.
-pub reached-first : (w first last marks : List ℕ) → Blank w first last marks Before → Reached session.Fresh w first last marks
-unfolding Stands
-reached-first w first last marks blank = record { place = Before; stands = blank }
+  answered-over out' end e laid s =
+      let over : p ≡ Ended = subst (λ (x : Session Dial). Stands x w first last marks p) e s in
+      rw over (record { stands = refl; lines = laid })

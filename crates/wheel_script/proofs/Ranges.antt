@@ -18,16 +18,16 @@ use Rattle.wheel_script.specs.declared.commands.Command.{Command}
 use Rattle.wheel_script.specs.declared.commands.Command.TheVariants as command
 
 -- What holds of the numbers of a command.
-abbrev Ranged : Command → Type 0
-Ranged command.Bad = Unit {0}
-Ranged (command.Wheel n t) = (1 ≤ n) × (n ≤ 512)
-Ranged (command.Arm e x) = Unit {0}
-Ranged (command.Cancel c k) = Unit {0}
-Ranged (command.Move c k e) = Unit {0}
-Ranged (command.Advance t r) = r ≤ 64
+abbrev Ranged : Option Command → Type 0
+Ranged None = Unit {0}
+Ranged (Some (command.Wheel n t)) = (1 ≤ n) × (n ≤ 512)
+Ranged (Some (command.Arm e x)) = Unit {0}
+Ranged (Some (command.Cancel c k)) = Unit {0}
+Ranged (Some (command.Move c k e)) = Unit {0}
+Ranged (Some (command.Advance t r)) = r ≤ 64
 
 -- Of two commands within their ranges, either is.
-either : (t : Bool) (x y : Command) → Ranged x → Ranged y → Ranged (cond t x y)
+either : (t : Bool) (x y : Option Command) → Ranged x → Ranged y → Ranged (cond t x y)
 either true x y p q = p
 either false x y p q = q
 
@@ -48,17 +48,17 @@ unfolding of_line of_two of_three
 line-ranged w numbers.Zero = tt
 line-ranged w (numbers.One a) = tt
 line-ranged w (numbers.Two a b) =
-    either (eqb w 65) (command.Arm a b) _ tt
-    (either (eqb w 67) (command.Cancel a b) _ tt
-    (either (eqb w 71) _ _ (advance-ranged a b) (either (eqb w 512852583788) _ command.Bad (wheel-ranged a b) tt)))
-line-ranged w (numbers.Three a b c) = either (eqb w 77) (command.Move a b c) command.Bad tt tt
+    either (eqb w 65) (Some (command.Arm a b)) _ tt
+    (either (eqb w 67) (Some (command.Cancel a b)) _ tt
+    (either (eqb w 71) _ _ (advance-ranged a b) (either (eqb w 512852583788) _ None (wheel-ranged a b) tt)))
+line-ranged w (numbers.Three a b c) = either (eqb w 77) (Some (command.Move a b c)) None tt tt
 
 ranged : (r : Option Line) → Ranged (command_of r)
 unfolding command_of
 ranged None = tt
 ranged (Some l) = line-ranged l.word l.numbers
 
-pub room_bound : (r : Option Line) (t room : ℕ) → command_of r ≡ command.Advance t room → room ≤ 64
+pub room_bound : (r : Option Line) (t room : ℕ) → command_of r ≡ Some (command.Advance t room) → room ≤ 64
 room_bound r t room e = subst Ranged e (ranged r)
 
 -- What holds of the numbers of a first line.
@@ -66,14 +66,14 @@ abbrev Sized : Option Opening → Type 0
 Sized None = Unit {0}
 Sized (Some o) = (1 ≤ o.cells) × (o.cells ≤ 512)
 
-sized : (x : Command) → Ranged x → Sized (opening_of x)
+sized : (x : Option Command) → Ranged x → Sized (opening_of x)
 unfolding opening_of
-sized command.Bad p = tt
-sized (command.Wheel n t) p = p
-sized (command.Arm e x) p = tt
-sized (command.Cancel c k) p = tt
-sized (command.Move c k e) p = tt
-sized (command.Advance t r) p = tt
+sized None p = tt
+sized (Some (command.Wheel n t)) p = p
+sized (Some (command.Arm e x)) p = tt
+sized (Some (command.Cancel c k)) p = tt
+sized (Some (command.Move c k e)) p = tt
+sized (Some (command.Advance t r)) p = tt
 
 pub size-bound : (r : Option Line) (o : Opening) → opening_of (command_of r) ≡ Some o → (1 ≤ o.cells) × (o.cells ≤ 512)
 size-bound r o e = subst Sized e (sized (command_of r) (ranged r))

@@ -1,29 +1,23 @@
 -- Laws of what a command says.
 -- Assumes nothing.
-use Prim.Native.Nat.{ℕ, ◌*◌, ◌/◌, ◌≤◌}
+use Prim.Native.Nat.{ℕ, ◌≤◌}
 use native.Mathlib.Omega.{arith}
 use mathlib.Core.List.{List}
 use Rattle.std.specs.Prelude.{Option, None, Some}
-use mathlib.Core.Path.{◌≡◌, sym, ap, subst}
+use mathlib.Core.Path.{sym, ap, subst}
 use lib.ListN.{length}
 use Rattle.script.specs.Answers.{Laid}
 use Rattle.script.proofs.Laying.{laid_as}
-use Rattle.meaning.specs.Calls.{Call, Advance}
+use Rattle.meaning.specs.Calls.{Call}
 use Rattle.meaning.specs.Plain.{Plain}
 use Rattle.wheel.specs.Promise.{DialShows}
 use Rattle.slots.specs.Rings.{Lists}
 use Rattle.dial.specs.declared.state.Dial.{Dial}
-use Rattle.wheel_script.specs.Spoken.{Spoken, Obeyed}
+use Rattle.wheel_script.specs.Spoken.{Obeyed}
 use Rattle.wheel_script.specs.Texts.{answer_text}
 use Rattle.wheel_script.specs.Runs.{call_text, call_model}
 
 module _ (l : Lists) (d : Dial) (out : List ℕ) (at : ℕ) (l' : Lists) (d' : Dial) (out' : List ℕ) (end : ℕ) where
-  -- The room is a fourth of the words.
-  pub room-named : (t room n : ℕ) → room * 4 ≡ n → Spoken (Advance t (n / 4)) l d out at l' d' out' end → Spoken (Advance t room) l d out at l' d' out' end
-  room-named t room n e s =
-      let f : n / 4 ≡ room = omega arith in
-      subst (λ (r : ℕ). Spoken (Advance t r) l d out at l' d' out' end) f s
-
   -- Each answer ends within the output.
   pub obeyed-within : (x : Option Call) → Obeyed x l d out at l' d' out' end → end ≤ length out
   unfolding Obeyed

@@ -16,8 +16,8 @@ use Rattle.wheel_script.specs.Spoken.{call_of}
 use Rattle.wheel_script.specs.declared.commands.Command.{Command}
 use Rattle.wheel_script.specs.declared.commands.Command.TheVariants as command
 use Rattle.wheel_script.specs.declared.commands.Opening.{Opening}
-use Rattle.wheel_script.specs.declared.serving.Session.{Session}
-use Rattle.wheel_script.specs.declared.serving.Session.TheVariants as session
+use Rattle.script.specs.declared.session.Session.{Session}
+use Rattle.script.specs.declared.session.Session.TheVariants as session
 
 -- Before the first line, with a wheel, or ended by the first line.
 pub data Place : Type 0 where
@@ -26,13 +26,13 @@ pub data Place : Type 0 where
   Ended : Place
 
 -- What the first line sets up, if it is right.
-unfoldable pub opening_of : Command → Option Opening
-opening_of command.Bad = None
-opening_of (command.Wheel n t) = Some (record { cells = n; start = t })
-opening_of (command.Arm e x) = None
-opening_of (command.Cancel c k) = None
-opening_of (command.Move c k e) = None
-opening_of (command.Advance t r) = None
+unfoldable pub opening_of : Option Command → Option Opening
+opening_of None = None
+opening_of (Some (command.Wheel n t)) = Some (record { cells = n; start = t })
+opening_of (Some (command.Arm e x)) = None
+opening_of (Some (command.Cancel c k)) = None
+opening_of (Some (command.Move c k e)) = None
+opening_of (Some (command.Advance t r)) = None
 
 -- "First line `wheel N t` .., answered `wheel N clock t`"; "A first line that is bad or refused gives `bad line` or its refusal".
 unfoldable pub opening_text : Option Opening → List ℕ
@@ -79,22 +79,22 @@ pub record Opened (n : ℕ) (d : Dial) (w first last marks : List ℕ) (p : Plac
   pub place : p ≡ Running model
   pub shows : DialShows (lists_of (take n w) first last marks d.due) d model
 
-unfoldable pub Stands : Session → List ℕ → List ℕ → List ℕ → List ℕ → Place → Type 0
+unfoldable pub Stands : Session Dial → List ℕ → List ℕ → List ℕ → List ℕ → Place → Type 0
 Stands session.Fresh w first last marks p = Blank w first last marks p
 Stands (session.Open n d) w first last marks p = Opened n d w first last marks p
 Stands session.Over w first last marks p = p ≡ Ended
 
 -- Session, words and arrays stand at some place of a run.
-pub record Reached (session : Session) (w first last marks : List ℕ) : Type 0 where
+pub record Reached (session : Session Dial) (w first last marks : List ℕ) : Type 0 where
   pub place : Place
   pub stands : Stands session w first last marks place
 
 -- The first line is answered.
-pub record Begun (x : Option Opening) (out : List ℕ) (at : ℕ) (session : Session) (w first last marks out' : List ℕ) (end : ℕ) : Type 0 where
+pub record Begun (x : Option Opening) (out : List ℕ) (at : ℕ) (session : Session Dial) (w first last marks out' : List ℕ) (end : ℕ) : Type 0 where
   pub stands : Stands session w first last marks (opening_place x)
   pub lines : Laid out at (opening_text x) out' end
 
 -- A line is answered at a place of a run: the run's text is laid, and session, words and arrays stand where the run does next.
-pub record Answered (p : Place) (line out : List ℕ) (at : ℕ) (session : Session) (w first last marks out' : List ℕ) (end : ℕ) : Type 0 where
+pub record Answered (p : Place) (line out : List ℕ) (at : ℕ) (session : Session Dial) (w first last marks out' : List ℕ) (end : ℕ) : Type 0 where
   pub stands : Stands session w first last marks (following p line)
   pub lines : Laid out at (printed p line) out' end

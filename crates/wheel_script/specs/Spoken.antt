@@ -24,13 +24,13 @@ pub record Spurned (l : Lists) (d : Dial) (out : List ℕ) (at : ℕ) (l' : List
   pub line : Laid out at bad_text out' end
 
 -- The call of a command; a wheel is set up by the first line alone.
-unfoldable pub call_of : Command → Option Call
-call_of command.Bad = None
-call_of (command.Wheel n t) = None
-call_of (command.Arm e x) = Some (Arm e x)
-call_of (command.Cancel c k) = Some (Cancel c k)
-call_of (command.Move c k e) = Some (Move c k e)
-call_of (command.Advance t r) = Some (Advance t r)
+unfoldable pub call_of : Option Command → Option Call
+call_of None = None
+call_of (Some (command.Wheel n t)) = None
+call_of (Some (command.Arm e x)) = Some (Arm e x)
+call_of (Some (command.Cancel c k)) = Some (Cancel c k)
+call_of (Some (command.Move c k e)) = Some (Move c k e)
+call_of (Some (command.Advance t r)) = Some (Advance t r)
 
 -- A line after the first: its call, or a bad line.
 unfoldable pub Obeyed : Option Call → Lists → Dial → List ℕ → ℕ → Lists → Dial → List ℕ → ℕ → Type 0

@@ -10,7 +10,6 @@ use script::reading::{Line, Numbers, read_line};
 // Each command with its numbers, in the order of the line.
 #[derive(Clone, Copy)]
 pub enum Command {
-    Bad,
     Wheel(u64, u64),
     Arm(u64, u64),
     Cancel(u64, u64),
@@ -38,57 +37,56 @@ const ADVANCE: u64 = b'G' as u64;
 
 // A wheel of 1 to 512 cells.
 #[tactic(auto, unfolding(crate::specs::Commands::wheel_of))]
-fn wheel_of(n: u64, t: u64) -> Command
+fn wheel_of(n: u64, t: u64) -> Option<Command>
     ensures { result ≡ wheel_of n t }
 {
     match n {
-        1..=512 => Command::Wheel(n, t),
-        _ => Command::Bad,
+        1..=512 => Some(Command::Wheel(n, t)),
+        _ => None,
     }
 }
 
 // An advance with room for at most 64 records.
 #[tactic(auto, unfolding(crate::specs::Commands::advance_of))]
-fn advance_of(target: u64, room: u64) -> Command
+fn advance_of(target: u64, room: u64) -> Option<Command>
     ensures { result ≡ advance_of target room }
 {
     match room {
-        0..=64 => Command::Advance(target, room),
-        _ => Command::Bad,
+        0..=64 => Some(Command::Advance(target, room)),
+        _ => None,
     }
 }
 
 #[tactic(auto, unfolding(crate::specs::Commands::of_two))]
-fn of_two(word: u64, a: u64, b: u64) -> Command
+fn of_two(word: u64, a: u64, b: u64) -> Option<Command>
     ensures { result ≡ of_two word a b }
 {
     match word {
-        ARM => Command::Arm(a, b),
-        CANCEL => Command::Cancel(a, b),
+        ARM => Some(Command::Arm(a, b)),
+        CANCEL => Some(Command::Cancel(a, b)),
         ADVANCE => advance_of(a, b),
         WHEEL => wheel_of(a, b),
-        _ => Command::Bad,
+        _ => None,
     }
 }
 
 #[tactic(auto, unfolding(crate::specs::Commands::of_three))]
-fn of_three(word: u64, a: u64, b: u64, c: u64) -> Command
+fn of_three(word: u64, a: u64, b: u64, c: u64) -> Option<Command>
     ensures { result ≡ of_three word a b c }
 {
     match word {
-        MOVE => Command::Move(a, b, c),
-        _ => Command::Bad,
+        MOVE => Some(Command::Move(a, b, c)),
+        _ => None,
     }
 }
 
 // By the numbers first, so that a word with too few or too many is bad.
 #[tactic(auto, unfolding(crate::specs::Commands::of_line))]
-fn of_line(line: Line) -> Command
+fn of_line(line: Line) -> Option<Command>
     ensures { result ≡ of_line line.word line.numbers }
 {
     match line.numbers {
-        Numbers::Zero => Command::Bad,
-        Numbers::One(_) => Command::Bad,
+        Numbers::Zero | Numbers::One(_) => None,
         Numbers::Two(a, b) => of_two(line.word, a, b),
         Numbers::Three(a, b, c) => of_three(line.word, a, b, c),
     }
@@ -96,22 +94,19 @@ fn of_line(line: Line) -> Command
 
 // A line, without its line feed.
 #[tactic(auto, unfolding(crate::specs::Commands::command_of))]
-pub fn read_command(line: &[u8]) -> Command
+pub fn read_command(line: &[u8]) -> Option<Command>
     ensures { result ≡ command_of (read_line line.now) }
 {
-    match read_line(line) {
-        Some(read) => of_line(read),
-        None => Command::Bad,
-    }
+    of_line(read_line(line)?)
 }
 
 // A command as the first of a run: only one that sets a wheel up is right there.
 #[tactic(auto, unfolding(crate::specs::Runs::opening_of))]
-pub fn as_first(command: Command) -> Option<Opening>
+pub fn as_first(command: Option<Command>) -> Option<Opening>
     ensures { result ≡ opening_of command }
 {
     match command {
-        Command::Wheel(cells, start) => Some(Opening { cells, start }),
+        Some(Command::Wheel(cells, start)) => Some(Opening { cells, start }),
         _ => None,
     }
 }

@@ -1,11 +1,11 @@
 // The lines of fired records: four words of an advance's output each.
 
 ghost use Rattle.std.specs.Prelude.{◌+◌, ◌*◌, ◌<◌, ◌≡◌, get_or, drop};
-ghost use Rattle.script.specs.Answers.{Laid};
+ghost use Rattle.script.specs.Pages.{same_bytes, Written};
 ghost use Rattle.wheel.specs.Answers.{record_in, records_in};
 ghost use Rattle.wheel_script.specs.Texts.{fired_text, fired_lines};
 
-use script::writing::write_line;
+use script::writing::Page;
 
 // Word f of record i, or 0 where there is none.
 fn word(records: &[u64], i: u64, f: u64) -> u64
@@ -17,31 +17,25 @@ fn word(records: &[u64], i: u64, f: u64) -> u64
 }
 
 // The line of record i.
-fn fired(out: &mut [u8], at: usize, records: &[u64], i: u64) -> usize
-    ensures { Laid out.old at (fired_text (record_in (drop (i * 4) records.now))) out.new result }
+fn fired(page: &mut Page, records: &[u64], i: u64)
+    ensures bytes { same_bytes page.old page.new }
+    ensures written { Written page.old (fired_text (record_in (drop (i * 4) records.now))) page.new }
 {
     let cell = word(records, i, 0);
     let ticket = word(records, i, 1);
     let deadline = word(records, i, 2);
     let load = word(records, i, 3);
-    write_line(
-        out,
-        at,
-        b"fired",
-        &[cell, ticket, deadline, load],
-        b"",
-        &[],
-        b"",
-    )
+    page.line(b"fired", &[cell, ticket, deadline, load], b"", &[], b"");
 }
 
 // The lines of the first k records.
-pub fn fired_lines(out: &mut [u8], at: usize, records: &[u64], k: u64) -> usize
-    ensures { Laid out.old at (fired_lines (records_in k records.now)) out.new result }
+pub fn fired_lines(page: &mut Page, records: &[u64], k: u64)
+    ensures bytes { same_bytes page.old page.new }
+    ensures written { Written page.old (fired_lines (records_in k records.now)) page.new }
 {
-    let mut end = at.min(out.len());
+    // No bytes, so that the text ends within the page where there is no record, too.
+    page.text(b"");
     for i in 0..k {
-        end = fired(out, end, records, i);
+        fired(page, records, i);
     }
-    end
 }

@@ -1,33 +1,37 @@
 // A run of the script on a wheel, as the drive takes it: the words, the wheel's arrays, and where the run stands.
-#![tactic(auto, unfolding(crate::specs::Sessions::words_of))]
+#![tactic(auto, unfolding(script::specs::Sessions::words_of))]
 
 ghost use Rattle.std.specs.Prelude.{ℕ, ◌≤◌, List, length};
 ghost use Rattle.dial.specs.Lent.{lists_of};
 ghost use Rattle.script.specs.Grammar.{read_line};
+ghost use Rattle.script.specs.Sessions.{words_of};
+ghost use Rattle.script.specs.Pages.{same_bytes};
 ghost use Rattle.wheel_script.specs.Commands.{command_of};
-ghost use Rattle.wheel_script.specs.Sessions.{words_of, Within};
 ghost use Rattle.wheel_script.specs.Spoken.{call_of, Obeyed};
 ghost use Rattle.wheel_script.specs.Runs.{Place, Stands, Reached as RunReached, Answered};
 
 use crate::calls::obey;
-use crate::serving::{Session, Turn, begin, goes_on};
+use crate::serving::begin;
 use script::drive::Machine;
+use script::session::Session;
+use script::writing::Page;
 use slots::slots::Lists;
 use wheel::head::Dial;
 
 // Does what a line says in the words of an open wheel, lent with its arrays as its lists.
 fn obey_in(
-    out: &mut [u8],
-    at: usize,
+    page: &mut Page,
     w: &mut [u64],
     first: &mut [u16],
     last: &mut [u16],
     marks: &mut [u64],
     d: &mut Dial,
     line: &[u8],
-) -> usize
-    ensures { Obeyed (call_of (command_of (read_line line.now))) (lists_of w.old first.old last.old marks.old d.old.due) d.old out.old at
-        (lists_of w.new first.new last.new marks.new d.new.due) d.new out.new result }
+)
+    ensures bytes { same_bytes page.old page.new }
+    ensures answered { Obeyed (call_of (command_of (read_line line.now)))
+        (lists_of w.old first.old last.old marks.old d.old.due) d.old page.old.bytes.now page.old.end
+        (lists_of w.new first.new last.new marks.new d.new.due) d.new page.new.bytes.now page.new.end }
 {
     let mut lists = Lists {
         words: w,
@@ -35,38 +39,38 @@ fn obey_in(
         last,
         marks,
     };
-    obey(out, at, &mut lists, d, line)
+    obey(page, &mut lists, d, line);
 }
 
-// Answers a line; once the run is over nothing is answered.
+// Answers a line; once the run is over nothing is answered, that is a text of no bytes.
 fn answer(
-    out: &mut [u8],
-    at: usize,
+    page: &mut Page,
     w: &mut [u64],
     first: &mut [u16],
     last: &mut [u16],
     marks: &mut [u64],
-    session: Session,
+    session: Session<Dial>,
     line: &[u8],
-) -> Turn
+) -> Session<Dial>
     requires { words_of session ≤ length w.old }
-    ensures within { Within result (length out.old) (length w.old) }
+    ensures bytes { same_bytes page.old page.new }
+    ensures place { page.new.end ≤ length page.old.bytes.now }
+    ensures engine { words_of result ≤ length w.old }
     ensures told { (p : Place) → Stands session w.old first.old last.old marks.old p
-        → Answered p line.now out.old at result.session w.new first.new last.new marks.new out.new result.end }
+        → Answered p line.now page.old.bytes.now page.old.end
+        result w.new first.new last.new marks.new page.new.bytes.now page.new.end }
 {
     match session {
-        Session::Fresh => begin(out, at, w, line),
+        Session::Fresh => begin(page, w, line),
         Session::Open(n, dial) => {
             let mut next = dial;
-            Turn {
-                end: obey_in(out, at, &mut w[..n], first, last, marks, &mut next, line),
-                session: Session::Open(n, next),
-            }
+            obey_in(page, &mut w[..n], first, last, marks, &mut next, line);
+            Session::Open(n, next)
         }
-        Session::Over => Turn {
-            end: at.min(out.len()),
-            session: Session::Over,
-        },
+        Session::Over => {
+            page.text(b"");
+            Session::Over
+        }
     }
 }
 
@@ -77,13 +81,13 @@ pub struct WheelRun {
     pub first: [u16; 384],
     pub last: [u16; 384],
     pub marks: [u64; 6],
-    pub session: Session,
+    pub session: Session<Dial>,
     ghost within: { words_of session ≤ 4096 },
 }
 
 impl WheelRun {
     // Before the first line: the arrays are those of an empty wheel.
-    #[tactic(auto, unfolding(crate::specs::Sessions::words_of, crate::specs::Runs::Stands))]
+    #[tactic(auto, unfolding(script::specs::Sessions::words_of, crate::specs::Runs::Stands))]
     pub fn new() -> Self
         ensures { RunReached result.session result.words result.first result.last result.marks }
     {
@@ -103,16 +107,17 @@ impl Machine for WheelRun {
     // The longest answers an advance, by 64 lines of at most 90 bytes and one of at most 60.
     const ROOM: usize = 8192;
 
-    fn answer(&mut self, out: &mut [u8], at: usize, line: &[u8]) -> usize
-        ensures within { result ≤ length out.old }
+    fn answer(&mut self, page: &mut Page, line: &[u8])
+        ensures bytes { same_bytes page.old page.new }
+        ensures within { page.new.end ≤ length page.old.bytes.now }
         ensures reached { RunReached self.old.session self.old.words self.old.first self.old.last self.old.marks
             → RunReached self.new.session self.new.words self.new.first self.new.last self.new.marks }
         ensures told { (p : Place) → Stands self.old.session self.old.words self.old.first self.old.last self.old.marks p
-            → Answered p line.now out.old at self.new.session self.new.words self.new.first self.new.last self.new.marks out.new result }
+            → Answered p line.now page.old.bytes.now page.old.end
+            self.new.session self.new.words self.new.first self.new.last self.new.marks page.new.bytes.now page.new.end }
     {
-        let turn = answer(
-            out,
-            at,
+        self.session = answer(
+            page,
             &mut self.words,
             &mut self.first,
             &mut self.last,
@@ -120,11 +125,9 @@ impl Machine for WheelRun {
             self.session,
             line,
         );
-        self.session = turn.session;
-        turn.end
     }
 
     fn goes_on(&self) -> bool {
-        goes_on(self.session)
+        self.session.goes_on()
     }
 }

@@ -8,7 +8,7 @@ use Rattle.dial.proofs.turns.run.Given as goal
 abbrev pub invariant-loop : goal.invariant-loop
 invariant-loop l = record {
   slices : same_slices l.initial.lists l.lists;
-  few : l.turn.store.cells ≤ 4096;
+  few : l.turn.dial.store.cells ≤ 4096;
   counted : l.turn.moves + 4096 * (l.end - l.counter) < 18446744073709551615;
   turned : turns l.end l.target (state_in l.initial.lists l.initial.out l.initial.turn)
       ≡ turns (l.end - l.counter) l.target (state_in l.lists l.out l.turn);

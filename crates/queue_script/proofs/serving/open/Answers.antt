@@ -4,8 +4,13 @@ use Rattle.queue_script.proofs.Opening.{begun-refused, begun-ready}
 use Rattle.queue_script.proofs.serving.open.Goals as goal
 
 pub returns-in-Err-clause-told : goal.returns-in-Err-clause-told
-returns-in-Err-clause-told c = λ long. begun-refused _ _ _ (search rules) c.requires.0 c.requires.1 _ _ _ _ _ _ _ c.set_up.ensures.answer c.in-Err.is c.refused.ensures
+returns-in-Err-clause-told c =
+    λ long.
+    begun-refused _ _ _ (search rules) c.requires.0 c.requires.1 _ _ _ _ _ _ _
+    c.set_up.ensures.answer c.in-Err.is c.refused.ensures.written
 
 pub returns-in-Ok-clause-told : goal.returns-in-Ok-clause-told
 returns-in-Ok-clause-told c =
-    λ long. begun-ready _ _ _ (search rules) c.requires.0 c.requires.1 _ _ _ _ _ _ _ _ c.set_up.ensures.answer c.in-Ok.is c.set_up.ensures.words c.ready.ensures
+    λ long.
+    begun-ready _ _ _ (search rules) c.requires.0 c.requires.1 _ _ _ _ _ _ _ _
+    c.set_up.ensures.answer c.in-Ok.is c.set_up.ensures.words c.ready.ensures.written

@@ -11,7 +11,9 @@ returns-in_default c = up_to-behind _ _ _ (⊎_elim (λ h. h) (λ h. absurd (ome
 pub returns : goal.returns
 returns c =
     let rest = c.in-Some.rest.now in
-    let first = IsFirst-from_position _ _ c.position.result (λ b. b ≡ c.args.stop) (λ b. b ≡ c.args.stop → ⊥) c.position.ensures.ran (YieldsList-from_slice rest cc) (λ x q k. search (rules, tests)) (λ x q k. search (rules, tests)) in
+    let first =
+    IsFirst-from_position _ _ c.position.result (λ b. b ≡ c.args.stop) (λ b. b ≡ c.args.stop → ⊥) c.position.ensures.ran
+    (YieldsList-from_slice rest cc) (λ x q k. search (rules, tests)) (λ x q k. search (rules, tests)) in
     let count = up_to-first c.args.stop rest c.position.result first in
     let found = c.in-Some.ensures.lookup.0 in
     rw (c.unwrap_or.ensures, ← count, found.2, between_to_end c.args.s.now c.args.from (length c.args.s.now) (omega arith))

@@ -2,5 +2,5 @@
 use Rattle.script.proofs.Laying.{laid-join}
 use Rattle.wheel_script.proofs.answers.report.Goals as goal
 
-pub returns : goal.returns
-returns c = laid-join _ _ _ _ _ _ _ _ c.fired_lines-next.ensures c.clock.ensures
+pub returns-clause-written : goal.returns-clause-written
+returns-clause-written c = laid-join _ _ _ _ _ _ _ _ c.fired_lines.ensures.written c.clock.ensures.written

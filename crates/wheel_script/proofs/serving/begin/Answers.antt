@@ -14,4 +14,4 @@ returns-in-Some-clause-told c = λ first last marks blank.
 
 pub returns-in-None-clause-told : goal.returns-in-None-clause-told
 returns-in-None-clause-told c = λ first last marks blank.
-    rw (sym (ap opening_of c.read_command.ensures) ∙ sym c.as_first.ensures ∙ c.in-None.is) (begun-wrong _ _ _ _ _ _ _ _ c.bad_line.ensures)
+    rw (sym (ap opening_of c.read_command.ensures) ∙ sym c.as_first.ensures ∙ c.in-None.is) (begun-wrong _ _ _ _ _ _ _ _ c.bad_line.ensures.written)
