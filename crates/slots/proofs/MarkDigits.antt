@@ -1,7 +1,7 @@
 -- Marks as binary digits: setting and clearing one within 64, and the search for the lowest.
 -- Assumes nothing.
 use Prim.Native.Nat.{ℕ, zero, suc, ◌+◌, ◌-◌, ◌*◌, ◌/◌, ◌%◌, ◌^◌, ◌<◌}
-use native.Mathlib.Nat.{add-zero, add-suc, zero-add, suc-add, one-mul, zero-div}
+use native.Mathlib.Nat.{add-zero, add-suc, zero-add, suc-add, one-mul, zero-div, div-eq_of_lt, lt_of_lt_of_le}
 use native.Mathlib.Omega.{arith}
 use mathlib.Core.Bool.{Bool, true, false, cond}
 use mathlib.Core.List.{List}
@@ -13,10 +13,10 @@ use Rattle.std.proofs.lemmas.Nat.Bits.{and_pow}
 use Rattle.std.specs.Int.Bits.{or_add_and}
 use lib.Dec.{eqb, lit<}
 use lib.ListN.{get_or}
-use lib.Pow.{shl_exact}
+use lib.Pow.{pow_mono, shl_exact}
 use Rattle.std.specs.Prelude.{Some, None}
 use borrow.Author.Tests.{eq-eqb, ne_eqb, lt-ltb}
-use Rattle.cells.proofs.Cases.{test}
+use Rattle.cells.proofs.Cases.{at_most?, test}
 use Rattle.slots.specs.Rings.{is_marked, marked, unmarked, scan, slot_marked, slot_found}
 use Rattle.slots.proofs.Binary.{mark-masked, unmark-masked}
 
@@ -88,6 +88,11 @@ lowest-counted x n h one none =
     ∙ scan-skip (is_marked x) n (suc (63 - n)) 0
     (λ j k. rw zero-add (ne_eqb (x / 2 ^ j % 2) 1 (λ e. omega (arith, none j k))))
     ∙ rw zero-add (scan-here (is_marked x) (63 - n) n here))
+
+-- Digits of a number of 64 of which what is left is not 0: they are less than 64.
+pub halved-small : (x s rest : ℕ) → x < 2 ^ 64 → 0 < rest → rest ≡ x / 2 ^ s → s < 64
+halved-small x s rest h left is =
+    at_most? 64 s (λ k. let none = div-eq_of_lt (lt_of_lt_of_le h (pow_mono k)) in absurd (omega (arith, left, is))) (λ k. k)
 
 -- A digit of a level's word is the mark of a slot.
 pub slot-digit : (marks : List ℕ) (p t : ℕ) → t < 64 → slot_marked marks (p * 64 + t) ≡ is_marked (get_or marks p 0) t
