@@ -1,5 +1,7 @@
 // Reading and writing of lent slices, and answers as plain numbers.
 
+ghost use Rattle.std.specs.Prelude.{◌≡◌, ◌++◌, cond, eqb, length, min, take, drop};
+
 use cells::refusal::Refusal;
 
 // An answer as C reads it, six plain numbers: its kind, 0 where it is refused, and its data; the number of a refusal is the first.
@@ -65,11 +67,13 @@ pub fn read(w: &[u64], j: usize) -> u64 {
     w.get(j).copied().unwrap_or(0)
 }
 
-// Writes numbers, as far as there are words for them.
-pub fn write_numbers(w: &mut [u64], numbers: &[u64]) {
-    for (word, number) in w.iter_mut().zip(numbers) {
-        *word = *number;
-    }
+// Writes numbers into the first words, as far as there are words for them.
+pub fn write_numbers(w: &mut [u64], numbers: &[u64])
+    ensures { w.new
+        ≡ take (min (length w.old) (length numbers.now)) numbers.now ++ drop (min (length w.old) (length numbers.now)) w.old }
+{
+    let n = w.len().min(numbers.len());
+    w[..n].copy_from_slice(&numbers[..n]);
 }
 
 // Writes the six numbers of an answer.
@@ -78,7 +82,9 @@ pub fn write_six(w: &mut [u64], x: Told) {
 }
 
 // Copies all, where both are as long.
-pub fn copy<T: Copy>(to: &mut [T], from: &[T]) {
+pub fn copy<T: Copy>(to: &mut [T], from: &[T])
+    ensures { to.new ≡ cond (eqb (length to.old) (length from.now)) from.now to.old }
+{
     if to.len() == from.len() {
         to.copy_from_slice(from);
     }
