@@ -7,15 +7,33 @@ mod commands;
 mod running;
 mod serving;
 
+ghost use Rattle.queue_script.specs.Runs.{Before, Stands, Reached};
+
 use crate::running::QueueRun;
 use script::console::large_buffer;
 use script::drive::run;
+use std::io::{Read, Write};
+
+// Drives a run from before its first line over the whole input: so `main` has to begin it there.
+fn drive<R: Read, W: Write>(
+    machine: &mut QueueRun,
+    input: &mut R,
+    output: &mut W,
+    buf: &mut [u8],
+    out: &mut [u8],
+)
+    requires { Stands machine.old.session machine.old.words Before }
+    ensures { Reached machine.new.session machine.new.words }
+{
+    run(machine, input, output, buf, out);
+}
 
 fn main(rt: HostRuntime) {
     let mut buf = large_buffer();
     let mut out = large_buffer();
-    run(
-        &mut QueueRun::new(),
+    let mut machine = QueueRun::new();
+    drive(
+        &mut machine,
         &mut rt.stdin(),
         &mut rt.stdout(),
         &mut buf,

@@ -1,10 +1,10 @@
 // A run of the script on a ready queue, as the drive takes it: the words, and where the run stands.
 #![tactic(auto, unfolding(script::specs::Sessions::words_of))]
 
-ghost use Rattle.std.specs.Prelude.{ℕ, ◌≤◌, List, length};
-ghost use Rattle.script.specs.Sessions.{words_of};
+ghost use Rattle.std.specs.Prelude.{ℕ, ◌≤◌, ◌≡◌, List, length};
+ghost use Rattle.script.specs.Sessions.{words_of, goes_on};
 ghost use Rattle.script.specs.Pages.{same_bytes};
-ghost use Rattle.queue_script.specs.Runs.{Place, Stands, Reached as RunReached, Answered};
+ghost use Rattle.queue_script.specs.Runs.{Place, Before, Stands, Reached as RunReached, Answered};
 
 use crate::calls::obey;
 use crate::serving::begin;
@@ -48,7 +48,8 @@ impl QueueRun {
     // Before the first line.
     #[tactic(auto, unfolding(script::specs::Sessions::words_of, crate::specs::Runs::Stands))]
     pub fn new() -> Self
-        ensures { RunReached result.session result.words }
+        ensures before { Stands result.session result.words Before }
+        ensures reached { RunReached result.session result.words }
     {
         QueueRun {
             words: [0; 4096],
@@ -59,6 +60,8 @@ impl QueueRun {
 
 impl Machine for QueueRun {
     ghost Reached = { λ m. RunReached m.session m.words };
+
+    ghost GoesOn = { λ m. goes_on m.session };
 
     const ROOM: usize = 256;
 
@@ -72,7 +75,9 @@ impl Machine for QueueRun {
         self.session = answer(page, &mut self.words, self.session, line);
     }
 
-    fn goes_on(&self) -> bool {
+    fn goes_on(&self) -> bool
+        ensures { result ≡ goes_on self.now.session }
+    {
         self.session.goes_on()
     }
 }

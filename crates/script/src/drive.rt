@@ -1,7 +1,7 @@
 // The drive of a script program: input is read in chunks, each of its lines is answered by the program's machine, and the answers are
 // written out.
 
-ghost use Rattle.std.specs.Prelude.{◌≡◌, ◌≤◌, length};
+ghost use Rattle.std.specs.Prelude.{Bool, ◌≡◌, ◌≤◌, length};
 ghost use Rattle.std.specs.ControlFlow.{MatchControlFlow};
 ghost use Rattle.script.specs.Pages.{same_bytes};
 
@@ -17,6 +17,9 @@ pub trait Machine {
     // That the machine stands where a run of its script does.
     ghost Reached: { Self → Type 0 };
 
+    // Whether its run goes on.
+    ghost GoesOn: { Self → Bool };
+
     // No answer to a line is longer than so many bytes.
     const ROOM: usize;
 
@@ -27,7 +30,8 @@ pub trait Machine {
         ensures reached { Reached self.old → Reached self.new };
 
     // Whether there is a further line to read.
-    fn goes_on(&self) -> bool;
+    fn goes_on(&self) -> bool
+        ensures { result ≡ GoesOn self.now };
 }
 
 // Writes out what stands on the page, and begins it again.

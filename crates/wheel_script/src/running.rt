@@ -1,14 +1,14 @@
 // A run of the script on a wheel, as the drive takes it: the words, the wheel's arrays, and where the run stands.
 #![tactic(auto, unfolding(script::specs::Sessions::words_of))]
 
-ghost use Rattle.std.specs.Prelude.{ℕ, ◌≤◌, List, length};
+ghost use Rattle.std.specs.Prelude.{ℕ, ◌≤◌, ◌≡◌, List, length};
 ghost use Rattle.dial.specs.Lent.{lists_of};
 ghost use Rattle.script.specs.Grammar.{read_line};
-ghost use Rattle.script.specs.Sessions.{words_of};
+ghost use Rattle.script.specs.Sessions.{words_of, goes_on};
 ghost use Rattle.script.specs.Pages.{same_bytes};
 ghost use Rattle.wheel_script.specs.Commands.{command_of};
 ghost use Rattle.wheel_script.specs.Spoken.{call_of, Obeyed};
-ghost use Rattle.wheel_script.specs.Runs.{Place, Stands, Reached as RunReached, Answered};
+ghost use Rattle.wheel_script.specs.Runs.{Place, Before, Stands, Reached as RunReached, Answered};
 
 use crate::calls::obey;
 use crate::serving::begin;
@@ -89,7 +89,8 @@ impl WheelRun {
     // Before the first line: the arrays are those of an empty wheel.
     #[tactic(auto, unfolding(script::specs::Sessions::words_of, crate::specs::Runs::Stands))]
     pub fn new() -> Self
-        ensures { RunReached result.session result.words result.first result.last result.marks }
+        ensures before { Stands result.session result.words result.first result.last result.marks Before }
+        ensures reached { RunReached result.session result.words result.first result.last result.marks }
     {
         WheelRun {
             words: [0; 4096],
@@ -103,6 +104,8 @@ impl WheelRun {
 
 impl Machine for WheelRun {
     ghost Reached = { λ m. RunReached m.session m.words m.first m.last m.marks };
+
+    ghost GoesOn = { λ m. goes_on m.session };
 
     // The longest answers an advance, by 64 lines of at most 90 bytes and one of at most 60.
     const ROOM: usize = 8192;
@@ -127,7 +130,9 @@ impl Machine for WheelRun {
         );
     }
 
-    fn goes_on(&self) -> bool {
+    fn goes_on(&self) -> bool
+        ensures { result ≡ goes_on self.now.session }
+    {
         self.session.goes_on()
     }
 }
