@@ -57,6 +57,18 @@ impl Page<'_> {
         self.end = end;
     }
 
+    // Writes one byte: a text of one is a call for each space and each line feed, which takes longer than the byte.
+    fn byte(&mut self, b: u8)
+        ensures bytes { same_bytes self.old self.new }
+        ensures written { Written self.old (b ∷ []) self.new }
+    {
+        let at = self.end;
+        self.end = text_end(self.bytes.len(), at, 1);
+        if at < self.bytes.len() {
+            self.bytes[at] = b;
+        }
+    }
+
     // Writes a number's decimal digits.
     pub fn number(&mut self, n: u64)
         ensures bytes { same_bytes self.old self.new }
@@ -72,7 +84,7 @@ impl Page<'_> {
         ensures bytes { same_bytes self.old self.new }
         ensures written { Written self.old (32 ∷ decimal n) self.new }
     {
-        self.text(b" ");
+        self.byte(b' ');
         self.number(n);
     }
 
@@ -105,6 +117,6 @@ impl Page<'_> {
         self.phrase(head, ns);
         self.phrase(tail, ms);
         self.text(last);
-        self.text(b"\n");
+        self.byte(b'\n');
     }
 }

@@ -8,4 +8,4 @@ unfolding answer_line
 returns-clause-written c =
     laid-join _ _ _ _ _ _ _ _
     (laid-join _ _ _ _ _ _ _ _ (laid-join _ _ _ _ _ _ _ _ c.phrase.ensures.written c.phrase-2.ensures.written) c.text.ensures.written)
-    c.text-2.ensures.written
+    c.byte.ensures.written
