@@ -67,13 +67,19 @@ pub fn read(w: &[u64], j: usize) -> u64 {
     w.get(j).copied().unwrap_or(0)
 }
 
-// Writes numbers into the first words, as far as there are words for them.
+// Writes numbers into the first words, as far as there are words for them. Where there are, their count is one that the compiler knows at each
+// call, so that an answer goes there from registers: put side by side first and copied then, it takes longer than a short call does.
+#[inline(always)]
 pub fn write_numbers(w: &mut [u64], numbers: &[u64])
     ensures { w.new
         ≡ take (min (length w.old) (length numbers.now)) numbers.now ++ drop (min (length w.old) (length numbers.now)) w.old }
 {
     let n = w.len().min(numbers.len());
-    w[..n].copy_from_slice(&numbers[..n]);
+    if n == numbers.len() {
+        w[..numbers.len()].copy_from_slice(numbers);
+    } else {
+        w[..n].copy_from_slice(&numbers[..n]);
+    }
 }
 
 // Writes the six numbers of an answer.
