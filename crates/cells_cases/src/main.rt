@@ -86,24 +86,23 @@ fn verdict(change: Change) -> bool {
     audit(&w, store, USED, FREE)
 }
 
-fn say(mut output: Stdout, name: &[u8], answer: &[u8]) {
+// Says a line in two writes: the name, and the rest with its line feed.
+fn say(mut output: Stdout, name: &[u8], rest: &[u8]) {
     write_all(&mut output, name);
-    write_all(&mut output, b": ");
-    write_all(&mut output, answer);
-    write_all(&mut output, b"\n");
+    write_all(&mut output, rest);
 }
 
 fn yes_or_no(ok: bool) -> &'static [u8] {
-    if ok { b"yes" } else { b"no" }
+    if ok { b": yes\n" } else { b": no\n" }
 }
 
 // A store of its own in lent words that hold anything.
 fn fresh(output: Stdout, name: &[u8], w: &mut [u64]) {
-    let answer = match set_up(w) {
-        Err(_) => b"refused 1",
+    let rest = match set_up(w) {
+        Err(_) => b": refused 1\n",
         Ok(store) => yes_or_no(audit(w, store, USED, FREE)),
     };
-    say(output, name, answer);
+    say(output, name, rest);
 }
 
 fn sizes(output: Stdout) {
