@@ -21,6 +21,7 @@ pub fn level(clock: u64, deadline: u64) -> u64
 }
 
 // The digit of a deadline at position p: 0 from position 11 on, since 64 ^ 11 is above every u64.
+#[tactic(auto, unfolding(crate::specs::Ticks::digit))]
 pub fn slot(deadline: u64, p: u64) -> u64
     ensures { result ≡ digit 64 p deadline }
 {
@@ -31,7 +32,7 @@ pub fn slot(deadline: u64, p: u64) -> u64
 }
 
 // The tick with the clock's digits above p, s at p and zeros below: 0 where p is no level or s no slot.
-#[tactic(auto, using(std::proofs::lemmas::Bool::Decides::nat_tests), unfolding(crate::specs::Answers::wake_answer))]
+#[tactic(auto, using(std::proofs::lemmas::Bool::Decides::nat_tests), unfolding(crate::specs::Answers::wake_answer, crate::specs::Ticks::wake_tick))]
 pub fn wake_tick(clock: u64, p: u64, s: u64) -> u64
     ensures { result ≡ wake_answer clock p s }
 {
