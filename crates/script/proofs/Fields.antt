@@ -50,6 +50,10 @@ unfolding one_digit given
 one-digit-large v b h =
     rw (lt-leb (v * 10 + (b - 48)) 18446744073709551615 h, and-false (is_digit b))
 
+-- The same of the number, for the check to find: ten times it is too large already.
+pub above_tenth : (v b : ℕ) → 1844674407370955161 < v → None ≡ one_digit v b
+above_tenth v b h = sym (one-digit-large v b (omega arith))
+
 pub one-digit-fits :
     (v b : ℕ)
     → is_digit b ≡ true

@@ -21,7 +21,7 @@ pub struct Line {
 }
 
 // The number v with the digit b after it: none where b is no digit or the number is above 2^64 - 1.
-#[tactic(auto, using(crate::proofs::Fields::below_digits, crate::proofs::Fields::above_digits))]
+#[tactic(auto, using(crate::proofs::Fields::below_digits, crate::proofs::Fields::above_digits, crate::proofs::Fields::above_tenth))]
 fn one_digit(v: u64, b: u8) -> Option<u64>
     ensures { result ≡ one_digit v b }
 {

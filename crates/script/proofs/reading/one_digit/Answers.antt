@@ -1,10 +1,10 @@
 -- By the number's range; the byte's is the check's own.
-use Rattle.std.proofs.Common.{sym, ◌∙◌, arith}
-use Rattle.script.proofs.Fields.{digit-yes, one-digit-large, one-digit-sum}
+use Rattle.std.proofs.Common.{◌∙◌, arith}
+use Rattle.script.proofs.Fields.{digit-yes, above_tenth, one-digit-sum}
 use Rattle.script.proofs.reading.one_digit.Goals as goal
 
 pub returns-in_err-tens : goal.returns-in_err-tens
-returns-in_err-tens c = c.from_residual.ensures ∙ sym (one-digit-large _ _ (omega (arith, c.in_err-tens.ensures)))
+returns-in_err-tens c = c.from_residual.ensures ∙ above_tenth _ _ (omega (arith, c.in_err-tens.ensures))
 
 pub returns : goal.returns
 returns c =
