@@ -29,6 +29,7 @@ fn drive<R: Read, W: Write>(
     run(machine, input, output, buf, out);
 }
 
+#[tactic(auto, unfolding(crate::specs::Runs::Stands))]
 fn main(rt: HostRuntime) {
     let mut buf = large_buffer();
     let mut out = large_buffer();
