@@ -67,8 +67,8 @@ pub fn read(w: &[u64], j: usize) -> u64 {
     w.get(j).copied().unwrap_or(0)
 }
 
-// Writes numbers into the first words, as far as there are words for them. Where there are, their count is one that the compiler knows at each
-// call, so that an answer goes there from registers: put side by side first and copied then, it takes longer than a short call does.
+// Writes numbers into the first words, as far as there are words for them. Where there are, their count is one that the compiler knows
+// at each call, so that an answer goes there from registers: put side by side first and copied then, it takes longer than a short call.
 #[inline(always)]
 pub fn write_numbers(w: &mut [u64], numbers: &[u64])
     ensures { w.new
